@@ -1,2 +1,7 @@
 // Definitions and their generic parameters: a catalogue that only definitions following the rules enter.
+pub mod catalogue;
 pub mod kinds;
+pub mod laws;
+pub mod stored;
+pub mod tables;
+pub mod terms;
