@@ -5,16 +5,17 @@ use mathlib.Core.List.{List, [], _∷_, _++_, append-assoc, append-nil}
 use Prim.Native.Nat.{ℕ, zero, suc, _+_, _-_, _<_, _≤_}
 use native.Mathlib.Omega.{arith}
 use native.Mathlib.Numerals.{add-one}
+use lib.Dec.{eqb}
 use lib.ListN.{length, getD, drop, length-drop}
 use Rattle.std.proofs.shelf.Lists.{drop-more, drop-all}
-use Rattle.std.proofs.shelf.Tests.{and-parts, cases-lt}
+use Rattle.std.proofs.shelf.Tests.{and-parts, cases-lt, cases-bool, both-ways, eq-eqb, ne-eqb}
 use Rattle.generics.specs.declared.kinds.Kind.{Kind}
 use Rattle.generics.specs.declared.kinds.Mark.{Mark}
 use Rattle.generics.specs.declared.kinds.Mark.the-variants.{Ref}
 use Rattle.generics.specs.Definitions.{Definition}
 use Rattle.generics.specs.Terms.{Term, term, Slots, none, more, At, begins, slotsOf, reads, ReadsTerms}
 use mathlib.Core.Logic.{_⊎_, inl, inr}
-use Rattle.generics.proofs.Ends.{term-within, slots-grow}
+use Rattle.generics.proofs.Ends.{term-within, term-one, slots-grow}
 
 -- nothing is read as no terms but no marks
 none-left : (ds : List Definition) (whole : List Kind) (xs : List Mark) → reads ds whole [] xs ≡ true → length xs ≡ 0
@@ -73,3 +74,17 @@ module _ (ds : List Definition) (whole : List Kind) (ms : List Mark) where
 
 pub reads-terms : ReadsTerms
 reads-terms ds whole k ms = (is-term ds whole ms k, term-is ds whole ms k)
+
+-- an end that was found, or that there is none, decides the test
+module _ (ds : List Definition) (whole : List Kind) (ms : List Mark) (k : Kind) where
+  pub ends-at : (e : ℕ) → Term ds whole ms 0 e k → eqb e (length ms) ≡ reads ds whole (k ∷ []) ms
+  ends-at e t = elim (cases-bool (reads ds whole (k ∷ []) ms)) [
+    | inl r ↦ eq-eqb e (length ms) (term-one t (is-term ds whole ms k r)) ∙ sym r
+    | inr r ↦ ne-eqb e (length ms) (λ q. both-ways _ r (term-is ds whole ms k (rw q at t))) ∙ sym r
+  ]
+
+  pub ends-nowhere : ((e : ℕ) → Term ds whole ms 0 e k → ⊥) → false ≡ reads ds whole (k ∷ []) ms
+  ends-nowhere stop = elim (cases-bool (reads ds whole (k ∷ []) ms)) [
+    | inl r ↦ absurd (stop (length ms) (is-term ds whole ms k r))
+    | inr r ↦ sym r
+  ]

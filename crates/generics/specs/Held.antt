@@ -27,6 +27,9 @@ rowsAt cat d = cut (defAt cat d .first) (defAt cat d .count) (vec-items (cat .ro
 abbrev pub rowKinds : List Row → List Kind
 rowKinds rows = map (λ (r : Row). kindOf (r .kind)) rows
 
+abbrev pub askedKinds : List GenericParam → List Kind
+askedKinds gs = map (λ (g : GenericParam). kindOf (g .kind)) gs
+
 -- the kinds of the places that a term may refer to
 abbrev pub scopeKinds : Scope → List Kind
-scopeKinds s = rowKinds (now (s .parent)) ++ map (λ (g : GenericParam). kindOf (g .kind)) (now (s .own))
+scopeKinds s = rowKinds (now (s .parent)) ++ askedKinds (now (s .own))

@@ -67,5 +67,8 @@ Counted defs rows marks = (rowTotal (definitions defs rows marks) ≡ length row
 abbrev pub paramAsked : GenericParam → Param
 paramAsked g = record { kind = g .kind; default = mapped now (g .default) }
 
+abbrev pub paramsAsked : List GenericParam → List Param
+paramsAsked gs = map paramAsked gs
+
 abbrev pub asked : Declaration → Definition
-asked d = record { kind = d .kind; parent = d .parent; rows = map paramAsked (now (d .rows)); body = mapped now (d .body) }
+asked d = record { kind = d .kind; parent = d .parent; rows = paramsAsked (now (d .rows)); body = mapped now (d .body) }

@@ -2,7 +2,7 @@
 use mathlib.Core.Path.{_≡_}
 use mathlib.Core.Bool.{Bool, true, false, cond, not, _&&_, _||_}
 use mathlib.Core.List.{List, [], _∷_, _++_}
-use Prim.Native.Nat.{ℕ, _+_, _<_, _≤_}
+use Prim.Native.Nat.{ℕ, _+_, _-_, _<_, _≤_}
 use lib.Dec.{ltb, leb, eqb}
 use lib.ListN.{length, take}
 use Rattle.std.specs.Options.{isSome}
@@ -38,7 +38,7 @@ mayBeParent Impl = true
 -- a parent is a declared trait or impl, and only what may have a parent names one
 abbrev pub parentRight : List Definition → GenericDefKind → Option ℕ → Bool
 parentRight ds k None = true
-parentRight ds k (Some p) = mayHaveParent k && (ltb p (length ds) && mayBeParent (definitionAt ds p .kind))
+parentRight ds k (Some p) = mayHaveParent k && mayBeParent (definitionAt ds p .kind)
 
 -- where rows of a kind stand among the others: Self, lifetimes, types and constants mixed, impl-trait rows
 -- (Reference, generic parameters: lifetimes come before types and constants, which may be mixed)
@@ -94,9 +94,12 @@ isNamed ImplTrait = false
 
 -- only named rows have defaults, and after one that has a default every named row has one; `seen` says that
 -- one came before (Reference, generic parameters)
+abbrev pub defaultRight : Bool → Param → Bool
+defaultRight seen p = cond (isSome (p .default)) (isNamed (p .kind)) (not (isNamed (p .kind) && seen))
+
 abbrev pub defaultsRight : Bool → List Param → Bool
 defaultsRight seen [] = true
-defaultsRight seen (p ∷ ps) = cond (isSome (p .default)) (isNamed (p .kind)) (not (isNamed (p .kind) && seen)) && defaultsRight (seen || isSome (p .default)) ps
+defaultsRight seen (p ∷ ps) = defaultRight seen p && defaultsRight (seen || isSome (p .default)) ps
 
 -- a default is a term of its row's kind that refers to places before its own
 abbrev pub defaultReads : List Definition → List Kind → Param → Option (List Mark) → Bool
@@ -138,3 +141,7 @@ Lawful ds = (i : ℕ) → i < length ds → follows (take i ds) (definitionAt ds
 -- the stated limits are kept
 abbrev pub Limited : List Definition → Type 0
 Limited ds = (length ds ≤ 64) × (rowTotal ds ≤ 512) × (markTotal ds ≤ 2048)
+
+-- what is left when a part is taken from a number, if it is large enough
+abbrev pub lessen : ℕ → ℕ → Option ℕ
+lessen whole part = cond (leb part whole) (Some (whole - part)) None

@@ -19,12 +19,12 @@ use crate::stored::Row;
 
 // The places that a term may refer to: the parent's rows, then own rows.
 #[derive(Clone, Copy)]
-pub struct Scope<'a> {
+pub struct Scope<'a, 'b, 'c> {
     pub parent: &'a [Row],
-    pub own: &'a [GenericParam<'a>],
+    pub own: &'b [GenericParam<'c>],
 }
 
-impl Scope<'_> {
+impl Scope<'_, '_, '_> {
     // The kind of a place, if there is such a place.
     pub fn kind_at(&self, place: u32) -> Option<Kind>
         ensures { λ r. ⌜ BySome r (length (scopeKinds (now (self .entry))) ≤ place) (λ k. (place < length (scopeKinds (now (self .entry)))) × (k ≡ getD (scopeKinds (now (self .entry))) place Lifetime)) ⌝ }
