@@ -1,4 +1,5 @@
 pub mod Ends
 pub mod Found
+pub mod Grown
 pub mod Scans
 pub mod Walked

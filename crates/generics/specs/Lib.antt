@@ -1,5 +1,6 @@
 pub mod Definitions
 pub mod Held
+pub mod Laid
 pub mod Lays
 pub mod Rules
 pub mod Terms

@@ -2,6 +2,7 @@
 pub mod catalogue;
 pub mod kinds;
 pub mod laws;
+mod lay;
 mod rules;
 pub mod stored;
 pub mod tables;
