@@ -1,3 +1,4 @@
+pub mod Declares
 pub mod Definitions
 pub mod Held
 pub mod Laid

@@ -52,6 +52,7 @@ pub(crate) fn lay_rows(rows: &mut Vec<Row>, marks: &mut Vec<Mark>, new: &[Generi
     requires marks { ⌜ vec-len (now marks) + defaultMarks (paramsAsked (now new)) ≤ vec-cap (now marks) ⌝ }
     ensures rows { λ _. ⌜ vec-items (now (rows .exit)) ≡ vec-items (now (rows .entry)) ++ laid (vec-len (now (marks .entry))) (paramsAsked (now (new .entry))) ⌝ }
     ensures marks { λ _. ⌜ vec-items (now (marks .exit)) ≡ vec-items (now (marks .entry)) ++ flat (paramsAsked (now (new .entry))) ⌝ }
+    ensures marks_len { λ _. ⌜ vec-len (now (marks .exit)) ≡ vec-len (now (marks .entry)) + defaultMarks (paramsAsked (now (new .entry))) ⌝ }
     ensures rows_capacity { λ _. ⌜ vec-cap (now (rows .exit)) ≡ vec-cap (now (rows .entry)) ⌝ }
     ensures marks_capacity { λ _. ⌜ vec-cap (now (marks .exit)) ≡ vec-cap (now (marks .entry)) ⌝ }
 {

@@ -1,5 +1,6 @@
 // Definitions and their generic parameters: a catalogue that only definitions following the rules enter.
 pub mod catalogue;
+pub mod declare;
 pub mod kinds;
 pub mod laws;
 mod lay;

@@ -3,6 +3,9 @@ use Prim.Native.Nat.{_+_}
 use native.Mathlib.Omega.{arith}
 use lib.ListN.{length, drop}
 use Rattle.std.specs.Of.Vec.{vec-items, vec-len}
+use Rattle.std.proofs.shelf.Lists.{at-drop-all}
+use Rattle.generics.specs.Definitions.{defaultMarks}
+use Rattle.generics.specs.Lays.{paramsAsked}
 use Rattle.generics.proofs.Grown.{rows-on, marks-on, rows-all, marks-all}
 use Rattle.generics.proofs.Walked.{marks-more}
 use Rattle.generics.proofs.lay.lay_rows.Needs as need
@@ -35,6 +38,7 @@ returns c =
     record {
       rows = rows-all new i h _ _ (vec-len (c .loop-row .marks)) (c .loop-row .inv .0);
       marks = marks-all new i h _ _ (c .loop-row .inv .1);
+      marks-len = let e = at-drop-all (λ xs. defaultMarks (paramsAsked xs)) new i h in omega (arith, c .loop-row .inv .5);
       rows-capacity = c .loop-row .inv .2;
       marks-capacity = c .loop-row .inv .3;
     }

@@ -13,45 +13,33 @@ use Rattle.generics.specs.Definitions.{rowTotal, markTotal, marksIn, defaultMa
 use Rattle.generics.specs.Held.{held}
 use Rattle.generics.specs.Lays.{definitionOf, paramAsked, paramsAsked, asked}
 use Rattle.generics.specs.Rules.{hasRoom}
+use Rattle.generics.proofs.Sizes.{defs-long, rows-long, marks-long, asked-long}
 use Rattle.generics.proofs.Walked.{lessen-left, room-moved, defs-full, rows-full, marks-decide}
 use Rattle.generics.proofs.catalogue.Catalogue.has_room.Needs as need
-
-module _ (cat : Catalogue) (d : Declaration) where
-  defs-long : length (held cat) ≡ vec-len (cat .defs)
-  defs-long = length-map (vec-items (cat .defs)) (definitionOf (vec-items (cat .rows)) (vec-items (cat .marks))) ∙ sym (cat .defs .ok .0)
-
-  rows-long : rowTotal (held cat) ≡ vec-len (cat .rows)
-  rows-long = cat .counted .0 ∙ sym (cat .rows .ok .0)
-
-  marks-long : markTotal (held cat) ≡ vec-len (cat .marks)
-  marks-long = cat .counted .1 ∙ sym (cat .marks .ok .0)
-
-  asked-long : length (asked d .rows) ≡ length (d .rows .now)
-  asked-long = length-map (d .rows .now) paramAsked
 
 pub returns-then-len-ge64 : need.returns-then-len-ge64
 returns-then-len-ge64 c =
     let cat = c .args .self .now in
-    let l = defs-long cat (c .args .d) in
+    let l = defs-long cat in
     defs-full (length (held cat)) _ (omega (arith, c .len .ensures))
 
 pub returns-then-d-len : need.returns-then-d-len
 returns-then-d-len c =
     let cat = c .args .self .now in
     let d = c .args .d in
-    let l = defs-long cat d in
-    let r = rows-long cat d in
-    let n = asked-long cat d in
+    let l = defs-long cat in
+    let r = rows-long cat in
+    let n = asked-long d in
     rows-full (length (held cat)) (rowTotal (held cat) + length (asked d .rows)) _ (omega (arith, c .len .ensures)) (omega (arith, c .len-2 .ensures))
 
 pub returns-in-Some : need.returns-in-Some
 returns-in-Some c =
     let cat = c .args .self .now in
     let d = c .args .d in
-    let l = defs-long cat d in
-    let r = rows-long cat d in
-    let m = marks-long cat d in
-    let n = asked-long cat d in
+    let l = defs-long cat in
+    let r = rows-long cat in
+    let m = marks-long cat in
+    let n = asked-long d in
     let few = cat .limited in
     let marks = defaultMarks (asked d .rows) in
     let body = marksIn (asked d .body) in
