@@ -6,7 +6,7 @@ use mathlib.Core.List.{List, [], _∷_, _++_, map, append-assoc, map-append, map
 use Prim.Native.Nat.{ℕ, _+_, _-_, _<_, _≤_}
 use native.Mathlib.Omega.{arith}
 use lib.Dec.{leb, ltb, eqb}
-use lib.ListN.{length, getD, take, drop}
+use lib.ListN.{length, getD, take, drop, length-map}
 use Rattle.std.specs.Options.{isSome}
 use Rattle.std.specs.declared.option.Option.{Option}
 use Rattle.std.specs.declared.option.Option.the-variants.{Some, None}
@@ -15,11 +15,13 @@ use Rattle.std.proofs.shelf.Tests.{le-leb, lt-leb, lt-ltb, le-ltb, cases-lt}
 use Rattle.std.proofs.shelf.Ways.{tells}
 use Rattle.generics.specs.declared.kinds.Kind.{Kind}
 use Rattle.generics.specs.declared.kinds.GenericParam.{GenericParam}
+use Rattle.generics.specs.declared.kinds.GenericDefKind.{GenericDefKind}
+use Rattle.generics.specs.declared.kinds.RowKind.{RowKind}
 use Rattle.generics.specs.declared.kinds.RowKind.the-variants.{TraitSelf}
-use Rattle.generics.specs.Definitions.{Param, Definition, kindOf, kindsOf, marksIn, defaultMarks, parentRows, wholeRows}
+use Rattle.generics.specs.Definitions.{Param, Definition, rowKindsOf, kindOf, kindsOf, marksIn, defaultMarks, parentRows, wholeRows}
 use Rattle.generics.specs.Held.{askedKinds}
 use Rattle.generics.specs.Lays.{paramAsked, paramsAsked}
-use Rattle.generics.specs.Rules.{rank, inOrder, ranked, oneIf, defaultRight, defaultsRight, lessen, defaultReads, defaultsRead, bodyReads, termsRight}
+use Rattle.generics.specs.Rules.{rank, inOrder, ranked, selvesOf, isFunction, rowsRight, defaultRight, defaultsRight, lessen, defaultReads, defaultsRead, bodyReads, termsRight}
 
 abbrev pub noParam : GenericParam
 noParam = record { kind = TraitSelf; default = None }
@@ -47,9 +49,6 @@ module _ (gs : List GenericParam) (i : ℕ) (h : i < length gs) where
 
     pub order-goes : low ≤ rank (here .kind) → inOrder (rank (here .kind)) (paramsAsked behind) ≡ y
     order-goes q = goes (leb low (rank (here .kind))) (inOrder (rank (here .kind)) (paramsAsked behind)) order-more known (le-leb low (rank (here .kind)) q)
-
-  pub ranked-more : (n : ℕ) → ranked n (paramsAsked (drop i gs)) ≡ oneIf (eqb (rank (here .kind)) n) + ranked n (paramsAsked behind)
-  ranked-more n = at-drop-more (λ xs. ranked n (paramsAsked xs)) gs i noParam h
 
   module _ (seen : Bool) {y : Bool} (known : defaultsRight seen (paramsAsked (drop i gs)) ≡ y) where
     defaults-more : defaultsRight seen (paramsAsked (drop i gs)) ≡ defaultRight seen (paramAsked here) && defaultsRight (seen || isSome (paramAsked here .default)) (paramsAsked behind)
@@ -124,3 +123,18 @@ pub terms-by : (ds : List Definition) (d : Definition) (gs : List GenericParam) 
 terms-by ds d gs ks same is =
     let w : kindsOf (wholeRows ds d) ≡ kindsOf (parentRows ds (d .parent)) ++ askedKinds gs = ap (λ rs. kindsOf (parentRows ds (d .parent) ++ rs)) same ∙ whole-kinds (parentRows ds (d .parent)) gs in
     rw (is, w)
+
+-- the rules on rows, over the rows as they are handed over
+pub rows-by : (k : GenericDefKind) (gs : List GenericParam) → rowsRight k (paramsAsked gs) ≡ leb (length gs) 32 && (inOrder 0 (paramsAsked gs) && (eqb (ranked 0 (map (λ (g : GenericParam). g .kind) gs)) (selvesOf k) && (isFunction k || eqb (ranked 3 (map (λ (g : GenericParam). g .kind) gs)) 0)))
+rows-by k gs =
+    let f : Param → RowKind = λ p. p .kind in
+    let e : rowKindsOf (paramsAsked gs) ≡ map (λ (g : GenericParam). g .kind) gs = map-map f paramAsked gs in
+    let l = length-map gs paramAsked in
+    rw (l, e)
+
+-- four tests in a row
+pub fails-third : (a b c d : Bool) → a ≡ true → b ≡ true → c ≡ false → false ≡ a && (b && (c && d))
+fails-third a b c d e f g = rw (e, f, g)
+
+pub fourth : (a b c d : Bool) → a ≡ true → b ≡ true → c ≡ true → d ≡ a && (b && (c && d))
+fourth a b c d e f g = rw (e, f, g)

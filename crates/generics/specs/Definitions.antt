@@ -33,6 +33,9 @@ kindOf TypeRow = TypeKind
 kindOf ConstRow = Const
 kindOf ImplTrait = TypeKind
 
+abbrev pub rowKindsOf : List Param → List RowKind
+rowKindsOf rows = map (λ (p : Param). p .kind) rows
+
 abbrev pub kindsOf : List Param → List Kind
 kindsOf rows = map (λ (p : Param). kindOf (p .kind)) rows
 

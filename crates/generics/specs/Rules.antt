@@ -15,7 +15,7 @@ use Rattle.generics.specs.declared.kinds.RowKind.the-variants.{TraitSelf, Life
 use Rattle.generics.specs.declared.kinds.Kind.{Kind}
 use Rattle.generics.specs.declared.kinds.Kind.the-variants.{«Type» as TypeKind}
 use Rattle.generics.specs.declared.kinds.Mark.{Mark}
-use Rattle.generics.specs.Definitions.{Param, Definition, kindOf, kindsOf, definitionAt, parentRows, wholeRows, marksIn, defaultMarks, rowTotal, markTotal}
+use Rattle.generics.specs.Definitions.{Param, Definition, rowKindsOf, kindOf, kindsOf, definitionAt, parentRows, wholeRows, marksIn, defaultMarks, rowTotal, markTotal}
 use Rattle.generics.specs.Terms.{isTerm}
 
 -- functions, aliases and constants may stand in a trait or an impl (Reference, associated items)
@@ -59,9 +59,9 @@ oneIf true = 1
 oneIf false = 0
 
 -- how many rows have the rank
-abbrev pub ranked : ℕ → List Param → ℕ
+abbrev pub ranked : ℕ → List RowKind → ℕ
 ranked n [] = 0
-ranked n (p ∷ ps) = oneIf (eqb (rank (p .kind)) n) + ranked n ps
+ranked n (k ∷ ks) = oneIf (eqb (rank k) n) + ranked n ks
 
 -- a trait has one Self row, and nothing else has one
 abbrev pub selvesOf : GenericDefKind → ℕ
@@ -83,7 +83,7 @@ isFunction Impl = false
 -- at most 32 rows, in order, with the Self rows that the kind has, and impl-trait rows in functions only
 -- (Reference, impl trait: in argument position)
 abbrev pub rowsRight : GenericDefKind → List Param → Bool
-rowsRight k rows = leb (length rows) 32 && (inOrder 0 rows && (eqb (ranked 0 rows) (selvesOf k) && (isFunction k || eqb (ranked 3 rows) 0)))
+rowsRight k rows = leb (length rows) 32 && (inOrder 0 rows && (eqb (ranked 0 (rowKindsOf rows)) (selvesOf k) && (isFunction k || eqb (ranked 3 (rowKindsOf rows)) 0)))
 
 abbrev pub isNamed : RowKind → Bool
 isNamed TraitSelf = false

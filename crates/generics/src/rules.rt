@@ -7,7 +7,7 @@ ghost use Rattle.std.specs.Of.Vec.{vec-items};
 ghost use Rattle.generics.specs.Definitions.{defaultMarks, kindsOf, marksIn, parentRows};
 ghost use Rattle.generics.specs.Held.{held, rowKinds, scopeKinds};
 ghost use Rattle.generics.specs.Lays.{asked, paramAsked, paramsAsked};
-ghost use Rattle.generics.specs.Rules.{bodyReads, defaultReads, defaultRight, defaultsRead, defaultsRight, hasRoom, inOrder, lessen, parentRight, ranked, rowsRight, termsRight};
+ghost use Rattle.generics.specs.Rules.{bodyReads, defaultReads, defaultRight, defaultsRead, defaultsRight, hasRoom, inOrder, lessen, parentRight, rowsRight, termsRight};
 ghost use Rattle.generics.specs.Terms.{isTerm};
 use crate::catalogue::Catalogue;
 use crate::kinds::Declaration;
@@ -15,6 +15,8 @@ use crate::kinds::GenericDefKind;
 use crate::kinds::GenericParam;
 use crate::kinds::Kind;
 use crate::kinds::Mark;
+use crate::ranks::AskedRow;
+use crate::ranks::count_ranked;
 use crate::stored::Row;
 use crate::terms::Scope;
 use crate::terms::term_end;
@@ -34,19 +36,6 @@ fn rows_in_order(rows: &[GenericParam]) -> bool
     true
 }
 
-// How many rows have the rank.
-fn rows_ranked(rows: &[GenericParam], rank: usize) -> usize
-    ensures { λ r. ⌜ r ≡ ranked rank (paramsAsked (now (rows .entry))) ⌝ }
-{
-    let mut count = 0;
-    for row in rows {
-        if row.kind.rank() == rank {
-            count += 1;
-        }
-    }
-    count
-}
-
 // Whether there are at most 32 rows, in order, with Self and impl-trait rows only where the kind has them.
 pub(crate) fn rows_fit(kind: GenericDefKind, rows: &[GenericParam]) -> bool
     ensures { λ r. ⌜ r ≡ rowsRight kind (paramsAsked (now (rows .entry))) ⌝ }
@@ -57,10 +46,10 @@ pub(crate) fn rows_fit(kind: GenericDefKind, rows: &[GenericParam]) -> bool
     if !rows_in_order(rows) {
         return false;
     }
-    if rows_ranked(rows, 0) != kind.self_rows() {
+    if count_ranked(rows, 0) != kind.self_rows() {
         return false;
     }
-    kind.is_function() || rows_ranked(rows, 3) == 0
+    kind.is_function() || count_ranked(rows, 3) == 0
 }
 
 // Whether a row has a default only if it is named, and, if it is named and one before it has a default, has one.
