@@ -6,8 +6,8 @@ use mathlib.Core.List.{List, [], _∷_, _++_, map, map-map}
 use Prim.Native.Nat.{ℕ, zero, suc, _+_, _-_, _<_, _≤_}
 use native.Mathlib.Omega.{arith}
 use lib.Dec.{ltb}
-use lib.ListN.{length, getD, take, drop, length-map, length-append}
-use Rattle.std.proofs.shelf.Lists.{getD-map, getD-past, getD-append-left, getD-append-right}
+use lib.ListN.{length, getD, take, drop, length-map, length-append, length-take, length-drop}
+use Rattle.std.proofs.shelf.Lists.{getD-map, getD-past, getD-append-left, getD-append-right, getD-take, getD-drop}
 use Rattle.std.proofs.shelf.Tests.{cases-lt}
 use Rattle.generics.specs.declared.kinds.Kind.{Kind}
 use Rattle.generics.specs.declared.kinds.Kind.the-variants.{Lifetime}
@@ -15,7 +15,7 @@ use Rattle.generics.specs.declared.kinds.Mark.{Mark}
 use Rattle.generics.specs.declared.stored.Row.{Row}
 use Rattle.generics.specs.declared.stored.Def.{Def}
 use Rattle.generics.specs.Definitions.{Param, Definition, definitionAt, nothing, kindOf, kindsOf}
-use Rattle.generics.specs.Lays.{cut, paramOf, definitionOf, definitions, noDef, Within}
+use Rattle.generics.specs.Lays.{cut, endOf, paramOf, definitionOf, definitions, noDef, noRow, Spelled, Within}
 use Rattle.generics.specs.Held.{rowKinds}
 
 module _ (defs : List Def) (rows : List Row) (marks : List Mark) where
@@ -33,10 +33,28 @@ module _ (defs : List Def) (rows : List Row) (marks : List Mark) where
     | inr h ↦ rw (getD-past defs d noDef h) (omega arith)
   ]
 
+  -- its body lies within the list of marks
+  pub body-within : Within defs rows marks → (d : ℕ) → endOf (getD defs d noDef .body) ≤ length marks
+  body-within ok d = elim (cases-lt d (length defs)) [
+    | inl h ↦ ok .1 d h
+    | inr h ↦ rw (getD-past defs d noDef h) (omega arith)
+  ]
+
   pub kinds-at : (d : ℕ) → rowKinds (cut (getD defs d noDef .first) (getD defs d noDef .count) rows) ≡ kindsOf (definitionAt (definitions defs rows marks) d .rows)
   kinds-at d =
       let f : Param → Kind = λ p. kindOf (p .kind) in
       sym (map-map f (paramOf marks) (cut (getD defs d noDef .first) (getD defs d noDef .count) rows)) ∙ ap (λ (x : Definition). kindsOf (x .rows)) (sym (defs-at d))
+
+  -- each of its rows has a default within the marks
+  pub spelled-at : Within defs rows marks → (d : ℕ) → Spelled marks (cut (getD defs d noDef .first) (getD defs d noDef .count) rows)
+  spelled-at ok d = cut-spelled (getD defs d noDef .first) (getD defs d noDef .count)
+    where
+      cut-spelled : (from len : ℕ) → Spelled marks (cut from len rows)
+      cut-spelled from len i h =
+          let t = length-take len (drop from rows) in
+          let l = length-drop from rows in
+          let e = getD-take len (drop from rows) i noRow (omega arith) ∙ getD-drop from rows i noRow in
+          rw e (ok .2 (from + i) (omega arith))
 
 -- an element of two mapped lists, one behind the other
 module _ {X Y Z : Type 0} (f : X → Z) (g : Y → Z) (xs : List X) (ys : List Y) (z : Z) where

@@ -52,12 +52,16 @@ abbrev pub endOf : Option Span → ℕ
 endOf None = 0
 endOf (Some s) = s .from + s .len
 
+-- each row's default is a part of the marks
+abbrev pub Spelled : List Mark → List Row → Type 0
+Spelled marks rows = (i : ℕ) → i < length rows → endOf (getD rows i noRow .default) ≤ length marks
+
 -- the parts lie within the lists
 abbrev pub Within : List Def → List Row → List Mark → Type 0
 Within defs rows marks =
     ((i : ℕ) → i < length defs → getD defs i noDef .first + getD defs i noDef .count ≤ length rows)
     × ((i : ℕ) → i < length defs → endOf (getD defs i noDef .body) ≤ length marks)
-    × ((i : ℕ) → i < length rows → endOf (getD rows i noRow .default) ≤ length marks)
+    × Spelled marks rows
 
 -- every row and every mark that is held belongs to a definition
 abbrev pub Counted : List Def → List Row → List Mark → Type 0

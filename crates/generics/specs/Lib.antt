@@ -3,5 +3,6 @@ pub mod Definitions
 pub mod Held
 pub mod Laid
 pub mod Lays
+pub mod Places
 pub mod Rules
 pub mod Terms

@@ -1,12 +1,13 @@
 // Whether a declaration follows the rules.
 ghost use mathlib.Core.Path.{_≡_};
 ghost use mathlib.Core.Bool.{false};
+ghost use mathlib.Core.List.{map};
 ghost use lib.ListN.{length};
 ghost use Rattle.std.specs.Options.{mapped};
 ghost use Rattle.std.specs.Of.Vec.{vec-items};
 ghost use Rattle.generics.specs.Definitions.{defaultMarks, kindsOf, marksIn, parentRows};
 ghost use Rattle.generics.specs.Held.{held, rowKinds, scopeKinds};
-ghost use Rattle.generics.specs.Lays.{asked, paramAsked, paramsAsked};
+ghost use Rattle.generics.specs.Lays.{Spelled, asked, paramAsked, paramOf, paramsAsked};
 ghost use Rattle.generics.specs.Rules.{bodyReads, defaultReads, defaultRight, defaultsRead, defaultsRight, hasRoom, inOrder, lessen, parentRight, rowsRight, termsRight};
 ghost use Rattle.generics.specs.Terms.{isTerm};
 use crate::catalogue::Catalogue;
@@ -128,7 +129,9 @@ impl Catalogue {
 
     // The rows of a parent; none where there is no parent.
     pub(crate) fn parent_rows(&self, parent: Option<u32>) -> &[Row]
-        ensures { λ r. ⌜ rowKinds (now r) ≡ kindsOf (parentRows (held (now (self .entry))) parent) ⌝ }
+        ensures kinds { λ r. ⌜ rowKinds (now r) ≡ kindsOf (parentRows (held (now (self .entry))) parent) ⌝ }
+        ensures params { λ r. ⌜ map (paramOf (vec-items (now (self .entry) .marks))) (now r) ≡ parentRows (held (now (self .entry))) parent ⌝ }
+        ensures within { λ r. ⌜ Spelled (vec-items (now (self .entry) .marks)) (now r) ⌝ }
     {
         match parent {
             Some(parent) => self.own_rows(parent),

@@ -1,12 +1,13 @@
 // Where a term ends, and where its slots end.
 ghost use mathlib.Core.Path.{_≡_};
+ghost use mathlib.Core.List.{map};
 ghost use Prim.Native.Nat.{ℕ, _<_, _≤_};
 ghost use lib.ListN.{length, getD};
 ghost use Rattle.std.specs.Options.{Cases as BySome};
 ghost use Rattle.std.specs.Of.Vec.{vec-items};
 ghost use Rattle.generics.specs.declared.kinds.Kind.the-variants.{Lifetime};
 ghost use Rattle.generics.specs.Definitions.{definitionAt};
-ghost use Rattle.generics.specs.Lays.{definitionOf};
+ghost use Rattle.generics.specs.Lays.{Spelled, definitionOf, paramOf};
 ghost use Rattle.generics.specs.Held.{held, defAt, rowsAt, rowKinds, scopeKinds};
 ghost use Rattle.generics.specs.Terms.{begins, slotsOf, Term, Slots};
 use crate::catalogue::Catalogue;
@@ -64,7 +65,9 @@ impl Catalogue {
 
     // A definition's own rows; none where the number is not declared.
     pub(crate) fn own_rows(&self, def: u32) -> &[Row]
-        ensures { λ r. ⌜ now r ≡ rowsAt (now (self .entry)) def ⌝ }
+        ensures rows { λ r. ⌜ now r ≡ rowsAt (now (self .entry)) def ⌝ }
+        ensures params { λ r. ⌜ map (paramOf (vec-items (now (self .entry) .marks))) (now r) ≡ definitionAt (held (now (self .entry))) def .rows ⌝ }
+        ensures within { λ r. ⌜ Spelled (vec-items (now (self .entry) .marks)) (now r) ⌝ }
     {
         let Def {
             kind: _,

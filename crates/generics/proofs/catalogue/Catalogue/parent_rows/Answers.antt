@@ -8,4 +8,8 @@ use Rattle.generics.proofs.catalogue.Catalogue.parent_rows.Needs as need
 pub returns-in-Some : need.returns-in-Some
 returns-in-Some c =
     let cat = c .args .self .now in
-    ap rowKinds (c .own-rows .ensures) ∙ kinds-at (vec-items (cat .defs)) (vec-items (cat .rows)) (vec-items (cat .marks)) (c .in-Some .parent) ∙ ap (λ p. kindsOf (parentRows (held cat) p)) (sym (c .in-Some .is))
+    record {
+      kinds = ap rowKinds (c .own-rows .ensures .rows) ∙ kinds-at (vec-items (cat .defs)) (vec-items (cat .rows)) (vec-items (cat .marks)) (c .in-Some .parent) ∙ ap (λ p. kindsOf (parentRows (held cat) p)) (sym (c .in-Some .is));
+      params = c .own-rows .ensures .params ∙ ap (parentRows (held cat)) (sym (c .in-Some .is));
+      within = c .own-rows .ensures .within;
+    }

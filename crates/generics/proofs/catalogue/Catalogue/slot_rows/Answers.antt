@@ -8,4 +8,4 @@ use Rattle.generics.proofs.catalogue.Catalogue.slot_rows.Needs as need
 pub returns-in-Head : need.returns-in-Head
 returns-in-Head c =
     let cat = c .args .self .now in
-    ap rowKinds (c .own-rows .ensures) ∙ kinds-at (vec-items (cat .defs)) (vec-items (cat .rows)) (vec-items (cat .marks)) (c .in-Head .def) ∙ ap (slotsOf (held cat)) (sym (c .in-Head .is))
+    ap rowKinds (c .own-rows .ensures .rows) ∙ kinds-at (vec-items (cat .defs)) (vec-items (cat .rows)) (vec-items (cat .marks)) (c .in-Head .def) ∙ ap (slotsOf (held cat)) (sym (c .in-Head .is))

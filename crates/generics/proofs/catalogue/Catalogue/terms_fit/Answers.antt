@@ -12,4 +12,4 @@ returns-then-defaults-are-terms c =
     let d = asked (c .args .d) in
     let own = c .args .d .rows .now in
     let ks = rowKinds (c .parent-rows-parent .result .now) in
-    c .body-fits .ensures ∙ ap (λ b. b && bodyReads ds (scopeKinds (record { parent = c .parent-rows-parent .result; own = c .args .d .rows })) (d .kind) (d .body)) (c .if-defaults-are-terms .ensures tt) ∙ sym (terms-by ds d own ks refl (c .parent-rows-parent .ensures))
+    c .body-fits .ensures ∙ ap (λ b. b && bodyReads ds (scopeKinds (record { parent = c .parent-rows-parent .result; own = c .args .d .rows })) (d .kind) (d .body)) (c .if-defaults-are-terms .ensures tt) ∙ sym (terms-by ds d own ks refl (c .parent-rows-parent .ensures .kinds))

@@ -1,0 +1,62 @@
+-- What a reader of the catalogue learns of a definition and of its places. Assumes nothing.
+use mathlib.Core.Bool.{Bool, true, false, cond}
+use mathlib.Core.List.{List, [], _∷_, _++_, map}
+use Prim.Native.Nat.{ℕ, zero, suc, _+_, _-_}
+use lib.Dec.{ltb}
+use lib.ListN.{length, take}
+use Rattle.std.specs.Options.{isSome, mapped}
+use Rattle.std.specs.declared.option.Option.{Option}
+use Rattle.std.specs.declared.option.Option.the-variants.{Some, None}
+use Rattle.generics.specs.declared.kinds.GenericDefKind.{GenericDefKind}
+use Rattle.generics.specs.declared.kinds.GenericParamId.{GenericParamId}
+use Rattle.generics.specs.declared.kinds.Kind.{Kind}
+use Rattle.generics.specs.declared.kinds.Mark.{Mark}
+use Rattle.generics.specs.declared.kinds.RowKind.{RowKind}
+use Rattle.generics.specs.declared.kinds.RowKind.the-variants.{TraitSelf, Lifetime as LifetimeRow, «Type» as TypeRow, Const as ConstRow, ImplTrait}
+use Rattle.generics.specs.Definitions.{Param, Definition, definitionAt, kindOf, parentRows, wholeRows}
+use Rattle.generics.specs.Rules.{oneIf}
+
+-- the element at a position, if there is one
+abbrev pub nth : {X : Type 0} → List X → ℕ → Option X
+nth [] i = None
+nth (x ∷ xs) zero = Some x
+nth (x ∷ xs) (suc i) = nth xs i
+
+-- the definition that a number names, if it is declared
+abbrev pub declaredAt : List Definition → ℕ → Option Definition
+declaredAt ds d = nth ds d
+
+-- the parameter at a place of a definition's whole list, if the definition and the place are there
+abbrev pub paramAt : List Definition → ℕ → ℕ → Option Param
+paramAt ds d place = nth (wholeRows ds (definitionAt ds d)) place
+
+abbrev pub defaultOf : Option Param → Option (List Mark)
+defaultOf None = None
+defaultOf (Some p) = p .default
+
+-- how many of the rows have a default
+abbrev pub defaulted : List Param → ℕ
+defaulted [] = 0
+defaulted (p ∷ ps) = oneIf (isSome (p .default)) + defaulted ps
+
+abbrev pub isLifetime : RowKind → Bool
+isLifetime TraitSelf = false
+isLifetime LifetimeRow = true
+isLifetime TypeRow = false
+isLifetime ConstRow = false
+isLifetime ImplTrait = false
+
+abbrev pub sameBool : Bool → Bool → Bool
+sameBool true true = true
+sameBool true false = false
+sameBool false true = false
+sameBool false false = true
+
+-- how many of the rows are lifetimes, or how many are not
+abbrev pub alike : Bool → List RowKind → ℕ
+alike b [] = 0
+alike b (k ∷ ks) = oneIf (sameBool (isLifetime k) b) + alike b ks
+
+-- the name of a definition's own row: lifetimes are numbered alone, all other rows together
+abbrev pub nameIn : ℕ → List RowKind → ℕ → Option GenericParamId
+nameIn d rows i = mapped (λ (k : RowKind). record { def = d; lifetime = isLifetime k; local = alike (isLifetime k) (take i rows) }) (nth rows i)
