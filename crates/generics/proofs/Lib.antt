@@ -5,4 +5,5 @@ pub mod Grown
 pub mod Placed
 pub mod Scans
 pub mod Sizes
+pub mod Tallied
 pub mod Walked

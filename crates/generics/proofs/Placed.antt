@@ -2,22 +2,24 @@
 use mathlib.Core.Path.{_≡_, refl, sym, ap, _∙_}
 use mathlib.Core.Bool.{Bool, true}
 use mathlib.Core.Logic.{_⊎_, inl, inr}
-use mathlib.Core.List.{List, [], _∷_, _++_, map}
+use mathlib.Core.List.{List, [], _∷_, _++_, map, map-map}
 use Prim.Native.Nat.{ℕ, zero, suc, _+_, _-_, _<_, _≤_}
 use native.Mathlib.Omega.{arith}
 use lib.Dec.{leb}
-use lib.ListN.{length, getD, take, length-append}
-use Rattle.std.specs.Options.{mapped}
+use lib.ListN.{length, getD, take, length-append, length-map}
+use Rattle.std.specs.Options.{isSome, mapped}
 use Rattle.std.specs.declared.option.Option.{Option}
 use Rattle.std.specs.declared.option.Option.the-variants.{Some, None}
-use Rattle.std.proofs.shelf.Lists.{getD-past}
+use Rattle.std.proofs.shelf.Lists.{getD-past, getD-default}
 use Rattle.std.proofs.shelf.Tests.{cases-lt, and-parts, leb-true}
 use Rattle.generics.specs.declared.catalogue.Catalogue.{Catalogue}
 use Rattle.generics.specs.declared.kinds.Mark.{Mark}
+use Rattle.generics.specs.declared.kinds.RowKind.{RowKind}
 use Rattle.generics.specs.declared.stored.Row.{Row}
-use Rattle.generics.specs.Definitions.{Definition, definitionAt, nothing, parentRows, wholeRows}
-use Rattle.generics.specs.Held.{held}
-use Rattle.generics.specs.Lays.{paramOf}
+use Rattle.generics.specs.declared.stored.Span.{Span}
+use Rattle.generics.specs.Definitions.{Param, Definition, rowKindsOf, definitionAt, nothing, parentRows, wholeRows}
+use Rattle.generics.specs.Held.{held, kindsHeld}
+use Rattle.generics.specs.Lays.{paramOf, spelled}
 use Rattle.generics.specs.Places.{nth, paramAt}
 use Rattle.generics.specs.Rules.{follows, rowsRight, parentRight, Lawful}
 use Rattle.generics.proofs.Found.{first-of, second-of, past-both}
@@ -71,3 +73,18 @@ whole-long ds d = length-append (parentRows ds (d .parent)) (d .rows)
 -- the whole list, from the rows as they are held
 pub place-of : (ds : List Definition) (marks : List Mark) (d place : ℕ) (p : Option ℕ) (before own : List Row) → p ≡ definitionAt ds d .parent → map (paramOf marks) before ≡ parentRows ds p → map (paramOf marks) own ≡ definitionAt ds d .rows → nth (map (paramOf marks) before ++ map (paramOf marks) own) place ≡ paramAt ds d place
 place-of ds marks d place p before own is e f = rw (e, f, is)
+
+-- rows as they are held, and as they are meant
+module _ (marks : List Mark) (held : List Row) (rows : List Param) (e : map (paramOf marks) held ≡ rows) where
+  pub kinds-meant : kindsHeld held ≡ rowKindsOf rows
+  kinds-meant = let f : Param → RowKind = λ p. p .kind in sym (map-map f (paramOf marks) held) ∙ ap rowKindsOf e
+
+  pub long-meant : length held ≡ length rows
+  long-meant = sym (length-map held (paramOf marks)) ∙ ap length e
+
+pub item-self : {X : Type 0} (xs : List X) (i : ℕ) (d : X) → i < length xs → getD xs i d ≡ getD xs i (getD xs i d)
+item-self xs i d h = getD-default xs i d (getD xs i d) h
+
+pub spelled-some : (marks : List Mark) (s : Option Span) → isSome (spelled marks s) ≡ isSome s
+spelled-some marks None = refl
+spelled-some marks (Some s) = refl

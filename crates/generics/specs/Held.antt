@@ -7,6 +7,7 @@ use denote.Ref.{now}
 use Rattle.std.specs.Of.Vec.{vec-items}
 use Rattle.generics.specs.declared.kinds.Kind.{Kind}
 use Rattle.generics.specs.declared.kinds.GenericParam.{GenericParam}
+use Rattle.generics.specs.declared.kinds.RowKind.{RowKind}
 use Rattle.generics.specs.declared.stored.Row.{Row}
 use Rattle.generics.specs.declared.stored.Def.{Def}
 use Rattle.generics.specs.declared.catalogue.Catalogue.{Catalogue}
@@ -23,6 +24,9 @@ defAt cat d = getD (vec-items (cat .defs)) d noDef
 
 abbrev pub rowsAt : Catalogue → ℕ → List Row
 rowsAt cat d = cut (defAt cat d .first) (defAt cat d .count) (vec-items (cat .rows))
+
+abbrev pub kindsHeld : List Row → List RowKind
+kindsHeld rows = map (λ (r : Row). r .kind) rows
 
 abbrev pub rowKinds : List Row → List Kind
 rowKinds rows = map (λ (r : Row). kindOf (r .kind)) rows

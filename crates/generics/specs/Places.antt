@@ -13,8 +13,9 @@ use Rattle.generics.specs.declared.kinds.Kind.{Kind}
 use Rattle.generics.specs.declared.kinds.Mark.{Mark}
 use Rattle.generics.specs.declared.kinds.RowKind.{RowKind}
 use Rattle.generics.specs.declared.kinds.RowKind.the-variants.{TraitSelf, Lifetime as LifetimeRow, «Type» as TypeRow, Const as ConstRow, ImplTrait}
-use Rattle.generics.specs.Definitions.{Param, Definition, definitionAt, kindOf, parentRows, wholeRows}
-use Rattle.generics.specs.Rules.{oneIf}
+use Rattle.generics.specs.declared.names.Provenance.{Provenance}
+use Rattle.generics.specs.Definitions.{Param, Definition, definitionAt, rowKindsOf, kindOf, parentRows, wholeRows}
+use Rattle.generics.specs.Rules.{ranked, tally}
 
 -- the element at a position, if there is one
 abbrev pub nth : {X : Type 0} → List X → ℕ → Option X
@@ -36,8 +37,7 @@ defaultOf (Some p) = p .default
 
 -- how many of the rows have a default
 abbrev pub defaulted : List Param → ℕ
-defaulted [] = 0
-defaulted (p ∷ ps) = oneIf (isSome (p .default)) + defaulted ps
+defaulted ps = tally (λ (p : Param). isSome (p .default)) ps
 
 abbrev pub isLifetime : RowKind → Bool
 isLifetime TraitSelf = false
@@ -54,9 +54,28 @@ sameBool false false = true
 
 -- how many of the rows are lifetimes, or how many are not
 abbrev pub alike : Bool → List RowKind → ℕ
-alike b [] = 0
-alike b (k ∷ ks) = oneIf (sameBool (isLifetime k) b) + alike b ks
+alike b ks = tally (λ (k : RowKind). sameBool (isLifetime k) b) ks
 
 -- the name of a definition's own row: lifetimes are numbered alone, all other rows together
 abbrev pub nameIn : ℕ → List RowKind → ℕ → Option GenericParamId
 nameIn d rows i = mapped (λ (k : RowKind). record { def = d; lifetime = isLifetime k; local = alike (isLifetime k) (take i rows) }) (nth rows i)
+
+-- the name of the parameter at a place; a parent's parameter keeps its parent's name
+abbrev pub nameFrom : List Definition → ℕ → Option ℕ → ℕ → Option GenericParamId
+nameFrom ds d None place = nameIn d (rowKindsOf (definitionAt ds d .rows)) place
+nameFrom ds d (Some p) place = cond (ltb place (length (definitionAt ds p .rows))) (nameIn p (rowKindsOf (definitionAt ds p .rows)) place) (nameIn d (rowKindsOf (definitionAt ds d .rows)) (place - length (definitionAt ds p .rows)))
+
+abbrev pub nameAt : List Definition → ℕ → ℕ → Option GenericParamId
+nameAt ds d place = nameFrom ds d (definitionAt ds d .parent) place
+
+-- how many rows the parent has, and how many own rows are Self, lifetimes, named, named with a default, impl-trait
+abbrev pub provenance : List Definition → Definition → Provenance
+provenance ds d =
+    record {
+      parent = length (parentRows ds (d .parent));
+      «trait_self» = ranked 0 (rowKindsOf (d .rows));
+      lifetimes = ranked 1 (rowKindsOf (d .rows));
+      named = ranked 2 (rowKindsOf (d .rows));
+      defaulted = defaulted (d .rows);
+      «impl_traits» = ranked 3 (rowKindsOf (d .rows));
+    }

@@ -58,10 +58,14 @@ abbrev pub oneIf : Bool → ℕ
 oneIf true = 1
 oneIf false = 0
 
+-- how many elements pass a test
+abbrev pub tally : {X : Type 0} → (X → Bool) → List X → ℕ
+tally test [] = 0
+tally test (x ∷ xs) = oneIf (test x) + tally test xs
+
 -- how many rows have the rank
 abbrev pub ranked : ℕ → List RowKind → ℕ
-ranked n [] = 0
-ranked n (k ∷ ks) = oneIf (eqb (rank k) n) + ranked n ks
+ranked n ks = tally (λ (k : RowKind). eqb (rank k) n) ks
 
 -- a trait has one Self row, and nothing else has one
 abbrev pub selvesOf : GenericDefKind → ℕ

@@ -4,6 +4,7 @@ pub mod declare;
 pub mod kinds;
 pub mod laws;
 mod lay;
+pub mod names;
 pub mod places;
 mod ranks;
 mod rules;

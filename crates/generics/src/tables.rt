@@ -1,6 +1,7 @@
 // What follows from a kind alone.
 ghost use mathlib.Core.Path.{_≡_};
 ghost use Rattle.generics.specs.Definitions.{kindOf};
+ghost use Rattle.generics.specs.Places.{isLifetime};
 ghost use Rattle.generics.specs.Rules.{isAlias, isFunction, isNamed, mayBeParent, mayHaveParent, selvesOf};
 ghost use Rattle.generics.specs.Rules.{rank as rankOf};
 ghost use Rattle.generics.specs.Terms.{isAdt, sameKind};
@@ -76,6 +77,12 @@ impl RowKind {
             RowKind::Type | RowKind::Const => 2,
             RowKind::ImplTrait => 3,
         }
+    }
+
+    pub fn is_lifetime(self) -> bool
+        ensures { λ r. ⌜ r ≡ isLifetime self ⌝ }
+    {
+        matches!(self, RowKind::Lifetime)
     }
 
     // Whether rows of this kind may have a default.

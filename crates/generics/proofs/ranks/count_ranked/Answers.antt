@@ -1,36 +1,25 @@
 use mathlib.Core.Path.{_≡_, sym, ap, _∙_}
-use mathlib.Core.List.{List, map}
-use Prim.Native.Nat.{ℕ, _+_, _<_, _≤_}
+use mathlib.Core.Bool.{Bool}
 use native.Mathlib.Omega.{arith}
 use lib.Dec.{eqb}
-use lib.ListN.{length, getD, drop}
-use Rattle.std.proofs.shelf.Lists.{at-drop-more, at-drop-all}
 use Rattle.std.proofs.shelf.Tests.{eq-eqb, ne-eqb}
 use Rattle.generics.specs.declared.kinds.RowKind.{RowKind}
-use Rattle.generics.specs.Rules.{ranked, rank, oneIf}
+use Rattle.generics.specs.Rules.{rank}
+use Rattle.generics.proofs.Tallied.{counts, passes, counted}
 use Rattle.generics.proofs.ranks.count_ranked.Needs as need
 use Rattle.generics.proofs.ranks.count_ranked.Needs.{then-rank, else-rank}
-
--- one row more
-ranked-more : {X : Type 0} (f : X → RowKind) (xs : List X) (i n : ℕ) (x : X) → i < length xs → x ≡ getD xs i x → ranked n (map f (drop i xs)) ≡ oneIf (eqb (rank (f x)) n) + ranked n (map f (drop (i + 1) xs))
-ranked-more f xs i n x h e = at-drop-more (λ l. ranked n (map f l)) xs i x h ∙ ap (λ y. oneIf (eqb (rank (f y)) n) + ranked n (map f (drop (i + 1) xs))) (sym e)
 
 pub loop-row-again : need.loop-row-again
 loop-row-again g c =
     let f = g .R·Ranked .shown in
-    let rows = c .args .rows .now in
-    let i = c .loop-row .row-index in
     let n = c .args .rank in
+    let test : RowKind → Bool = λ k. eqb (rank k) n in
     let x = c .row-item .result in
-    let m = ranked-more f rows i n x (c .loop-row-test .taken) (c .row-item .is) in
     let k : c .rank .result ≡ rank (f x) = c .rank .ensures ∙ ap rank (c .row-kind .ensures) in
     elim (c .if-rank .came) [
-      | then-rank w ↦ let e = ap oneIf (eq-eqb (rank (f x)) n (sym k ∙ w .if-rank .taken)) in (omega (arith, w .count-is, c .loop-row .inv .0), omega (arith, w .count-is, c .loop-row .inv .1))
-      | else-rank w ↦ let e = ap oneIf (ne-eqb (rank (f x)) n (λ q. w .if-rank .left (k ∙ q))) in (omega (arith, w .count-is, c .loop-row .inv .0), omega (arith, w .count-is, c .loop-row .inv .1))
+      | then-rank w ↦ counts test f (c .args .rows .now) (c .loop-row .row-index) (c .loop-row .count) _ x (c .loop-row-test .taken) (c .row-item .is) (c .loop-row .inv) (eq-eqb (rank (f x)) n (sym k ∙ w .if-rank .taken)) (w .count-is)
+      | else-rank w ↦ passes test f (c .args .rows .now) (c .loop-row .row-index) (c .loop-row .count) _ x (c .loop-row-test .taken) (c .row-item .is) (c .loop-row .inv) (ne-eqb (rank (f x)) n (λ q. w .if-rank .left (k ∙ q))) (w .count-is)
     ]
 
 pub returns : need.returns
-returns g c =
-    let f = g .R·Ranked .shown in
-    let e = at-drop-all (λ l. ranked (c .args .rank) (map f l)) (c .args .rows .now) (c .loop-row .row-index) (c .loop-row-test .left) in
-    omega (arith, c .loop-row .inv .0)
+returns g c = counted (λ (k : RowKind). eqb (rank k) (c .args .rank)) (g .R·Ranked .shown) (c .args .rows .now) (c .loop-row .row-index) (c .loop-row .count) (c .loop-row-test .left) (c .loop-row .inv)

@@ -1,11 +1,8 @@
-use mathlib.Core.Path.{_≡_}
-use mathlib.Core.List.{map}
-use Prim.Native.Nat.{_+_, _≤_}
-use lib.ListN.{drop}
-use Rattle.generics.specs.Rules.{ranked}
+use lib.Dec.{eqb}
+use Rattle.generics.specs.declared.kinds.RowKind.{RowKind}
+use Rattle.generics.specs.Rules.{rank}
+use Rattle.generics.proofs.Tallied.{Counting}
 use Rattle.generics.proofs.ranks.count_ranked.Given as given
 
 abbrev pub Inv-loop-row : given.InvT-loop-row
-Inv-loop-row g l =
-    (l .count + ranked (l .rank) (map (g .R·Ranked .shown) (drop (l .row-index) (l .rows))) ≡ ranked (l .rank) (map (g .R·Ranked .shown) (l .rows)))
-    × (l .count ≤ l .row-index)
+Inv-loop-row g l = Counting (λ (k : RowKind). eqb (rank k) (l .rank)) (g .R·Ranked .shown) (l .rows) (l .row-index) (l .count)
