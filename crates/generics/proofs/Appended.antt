@@ -11,14 +11,14 @@ use Rattle.std.specs.declared.option.Option.{Option}
 use Rattle.std.specs.declared.option.Option.the-variants.{Some, None}
 use Rattle.std.proofs.shelf.Lists.{take-map, drop-map, take-append-le, drop-append-le, drop-at, take-all, take-at, getD-append-left, getD-push, length-push}
 use Rattle.std.proofs.shelf.Tests.{and-parts, leb-true, ltb-true, cases-lt}
-use Rattle.generics.specs.declared.kinds.Mark.{Mark}
+use Rattle.definitions.specs.declared.kinds.Mark.{Mark}
 use Rattle.generics.specs.declared.stored.Span.{Span}
 use Rattle.generics.specs.declared.stored.Row.{Row}
 use Rattle.generics.specs.declared.stored.Def.{Def}
-use Rattle.generics.specs.Definitions.{Param, Definition, definitionAt, nothing, marksIn, defaultMarks, rowTotal, markTotal}
+use Rattle.definitions.specs.Definitions.{Param, Definition, definitionAt, nothing, marksIn, defaultMarks, rowTotal, markTotal}
 use Rattle.generics.specs.Laid.{marksOf, spanAt, laid, flat}
 use Rattle.generics.specs.Lays.{cut, spelled, paramOf, definitionOf, definitions, noRow, noDef, endOf, Within, Counted}
-use Rattle.generics.specs.Rules.{follows, hasRoom, Lawful, Limited}
+use Rattle.definitions.specs.Rules.{follows, hasRoom, Lawful, Limited}
 
 -- lists of general elements
 

@@ -9,12 +9,12 @@ use lib.Dec.{ltb}
 use lib.ListN.{length, getD, take, drop, length-map, length-append, length-take, length-drop}
 use Rattle.std.proofs.shelf.Lists.{getD-map, getD-past, getD-append-left, getD-append-right, getD-take, getD-drop}
 use Rattle.std.proofs.shelf.Tests.{cases-lt}
-use Rattle.generics.specs.declared.kinds.Kind.{Kind}
-use Rattle.generics.specs.declared.kinds.Kind.the-variants.{Lifetime}
-use Rattle.generics.specs.declared.kinds.Mark.{Mark}
+use Rattle.definitions.specs.declared.kinds.Kind.{Kind}
+use Rattle.definitions.specs.declared.kinds.Kind.the-variants.{Lifetime}
+use Rattle.definitions.specs.declared.kinds.Mark.{Mark}
 use Rattle.generics.specs.declared.stored.Row.{Row}
 use Rattle.generics.specs.declared.stored.Def.{Def}
-use Rattle.generics.specs.Definitions.{Param, Definition, definitionAt, nothing, kindOf, kindsOf}
+use Rattle.definitions.specs.Definitions.{Param, Definition, definitionAt, nothing, kindOf, kindsOf}
 use Rattle.generics.specs.Lays.{cut, endOf, paramOf, definitionOf, definitions, noDef, noRow, Spelled, Within}
 use Rattle.generics.specs.Held.{rowKinds}
 

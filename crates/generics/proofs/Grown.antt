@@ -6,11 +6,11 @@ use native.Mathlib.Omega.{arith}
 use lib.ListN.{length, getD, take, drop}
 use Rattle.std.specs.declared.option.Option.{Option}
 use Rattle.std.proofs.shelf.Lists.{take-more, at-drop-more, at-drop-all}
-use Rattle.generics.specs.declared.kinds.GenericParam.{GenericParam}
-use Rattle.generics.specs.declared.kinds.Mark.{Mark}
+use Rattle.definitions.specs.declared.kinds.GenericParam.{GenericParam}
+use Rattle.definitions.specs.declared.kinds.Mark.{Mark}
 use Rattle.generics.specs.declared.stored.Span.{Span}
 use Rattle.generics.specs.declared.stored.Row.{Row}
-use Rattle.generics.specs.Definitions.{marksIn}
+use Rattle.definitions.specs.Definitions.{marksIn}
 use Rattle.generics.specs.Laid.{marksOf, spanAt, laid, flat}
 use Rattle.generics.specs.Lays.{paramAsked, paramsAsked}
 use Rattle.generics.proofs.Walked.{noParam}

@@ -1,9 +1,7 @@
 pub mod Appended
-pub mod Ends
 pub mod Found
 pub mod Grown
-pub mod Placed
-pub mod Scans
 pub mod Sizes
+pub mod Slotted
 pub mod Tallied
 pub mod Walked

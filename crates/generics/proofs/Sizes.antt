@@ -8,11 +8,11 @@ use lib.ListN.{length, length-map}
 use Rattle.std.specs.Of.Vec.{vec-items, vec-len}
 use Rattle.std.proofs.shelf.Tests.{and-parts, ltb-true, leb-true}
 use Rattle.generics.specs.declared.catalogue.Catalogue.{Catalogue}
-use Rattle.generics.specs.declared.kinds.Declaration.{Declaration}
-use Rattle.generics.specs.Definitions.{rowTotal, markTotal, marksIn, defaultMarks}
+use Rattle.definitions.specs.declared.kinds.Declaration.{Declaration}
+use Rattle.definitions.specs.Definitions.{rowTotal, markTotal, marksIn, defaultMarks}
 use Rattle.generics.specs.Held.{held}
 use Rattle.generics.specs.Lays.{definitionOf, paramAsked, asked}
-use Rattle.generics.specs.Rules.{hasRoom}
+use Rattle.definitions.specs.Rules.{hasRoom}
 
 module _ (cat : Catalogue) where
   pub defs-long : length (held cat) ≡ vec-len (cat .defs)

@@ -6,7 +6,7 @@ use Prim.Native.Nat.{ℕ, _+_, _<_, _≤_}
 use native.Mathlib.Omega.{arith}
 use lib.ListN.{length, getD, drop}
 use Rattle.std.proofs.shelf.Lists.{at-drop-more, at-drop-all}
-use Rattle.generics.specs.Rules.{oneIf, tally}
+use Rattle.definitions.specs.Rules.{oneIf, tally}
 
 -- the count so far, with what is left to count, is the whole count
 module _ {X Y : Type 0} (test : Y → Bool) (shown : X → Y) (xs : List X) (i count : ℕ) where

@@ -13,15 +13,15 @@ use Rattle.std.specs.declared.option.Option.the-variants.{Some, None}
 use Rattle.std.proofs.shelf.Lists.{at-drop-more, map-more}
 use Rattle.std.proofs.shelf.Tests.{le-leb, lt-leb, lt-ltb, le-ltb, cases-lt}
 use Rattle.std.proofs.shelf.Ways.{tells}
-use Rattle.generics.specs.declared.kinds.Kind.{Kind}
-use Rattle.generics.specs.declared.kinds.GenericParam.{GenericParam}
-use Rattle.generics.specs.declared.kinds.GenericDefKind.{GenericDefKind}
-use Rattle.generics.specs.declared.kinds.RowKind.{RowKind}
-use Rattle.generics.specs.declared.kinds.RowKind.the-variants.{TraitSelf}
-use Rattle.generics.specs.Definitions.{Param, Definition, rowKindsOf, kindOf, kindsOf, marksIn, defaultMarks, parentRows, wholeRows}
+use Rattle.definitions.specs.declared.kinds.Kind.{Kind}
+use Rattle.definitions.specs.declared.kinds.GenericParam.{GenericParam}
+use Rattle.definitions.specs.declared.kinds.GenericDefKind.{GenericDefKind}
+use Rattle.definitions.specs.declared.kinds.RowKind.{RowKind}
+use Rattle.definitions.specs.declared.kinds.RowKind.the-variants.{TraitSelf}
+use Rattle.definitions.specs.Definitions.{Param, Definition, rowKindsOf, kindOf, kindsOf, marksIn, defaultMarks, parentRows, wholeRows}
 use Rattle.generics.specs.Held.{askedKinds}
 use Rattle.generics.specs.Lays.{paramAsked, paramsAsked}
-use Rattle.generics.specs.Rules.{rank, inOrder, ranked, selvesOf, isFunction, rowsRight, defaultRight, defaultsRight, lessen, defaultReads, defaultsRead, bodyReads, termsRight}
+use Rattle.definitions.specs.Rules.{rank, inOrder, ranked, selvesOf, isFunction, rowsRight, defaultRight, defaultsRight, lessen, defaultReads, defaultsRead, bodyReads, termsRight}
 
 abbrev pub noParam : GenericParam
 noParam = record { kind = TraitSelf; default = None }

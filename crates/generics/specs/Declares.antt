@@ -9,9 +9,9 @@ use Rattle.std.specs.declared.result.Result.the-variants.{Ok, Err}
 use Rattle.generics.specs.declared.declare.DeclareRefusal.{DeclareRefusal}
 use Rattle.generics.specs.declared.declare.DeclareRefusal.the-variants.{Parent, Rows, Default, Term, Full}
 use Rattle.generics.specs.declared.catalogue.Catalogue.{Catalogue}
-use Rattle.generics.specs.Definitions.{Definition}
+use Rattle.definitions.specs.Definitions.{Definition}
 use Rattle.generics.specs.Held.{held}
-use Rattle.generics.specs.Rules.{parentRight, rowsRight, defaultsRight, termsRight, hasRoom}
+use Rattle.definitions.specs.Rules.{parentRight, rowsRight, defaultsRight, termsRight, hasRoom}
 
 -- an answer: a definition's number, or the number of a refusal
 pub data Answer : Type 0 where

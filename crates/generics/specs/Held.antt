@@ -5,14 +5,14 @@ use Prim.Native.Nat.{ℕ}
 use lib.ListN.{getD}
 use denote.Ref.{now}
 use Rattle.std.specs.Of.Vec.{vec-items}
-use Rattle.generics.specs.declared.kinds.Kind.{Kind}
-use Rattle.generics.specs.declared.kinds.GenericParam.{GenericParam}
-use Rattle.generics.specs.declared.kinds.RowKind.{RowKind}
+use Rattle.definitions.specs.declared.kinds.Kind.{Kind}
+use Rattle.definitions.specs.declared.kinds.GenericParam.{GenericParam}
+use Rattle.definitions.specs.declared.kinds.RowKind.{RowKind}
 use Rattle.generics.specs.declared.stored.Row.{Row}
 use Rattle.generics.specs.declared.stored.Def.{Def}
 use Rattle.generics.specs.declared.catalogue.Catalogue.{Catalogue}
 use Rattle.generics.specs.declared.terms.Scope.{Scope}
-use Rattle.generics.specs.Definitions.{Definition, kindOf}
+use Rattle.definitions.specs.Definitions.{Definition, kindOf}
 use Rattle.generics.specs.Lays.{definitions, noDef, cut}
 
 -- the definitions that were declared, in order: a definition's number is its position

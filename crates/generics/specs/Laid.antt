@@ -4,10 +4,10 @@ use Prim.Native.Nat.{ℕ, _+_}
 use lib.ListN.{length}
 use Rattle.std.specs.declared.option.Option.{Option}
 use Rattle.std.specs.declared.option.Option.the-variants.{Some, None}
-use Rattle.generics.specs.declared.kinds.Mark.{Mark}
+use Rattle.definitions.specs.declared.kinds.Mark.{Mark}
 use Rattle.generics.specs.declared.stored.Span.{Span}
 use Rattle.generics.specs.declared.stored.Row.{Row}
-use Rattle.generics.specs.Definitions.{Param, marksIn}
+use Rattle.definitions.specs.Definitions.{Param, marksIn}
 
 -- the marks of a default or a body, none where there is none
 abbrev pub marksOf : Option (List Mark) → List Mark

@@ -7,15 +7,15 @@ use denote.Ref.{now}
 use Rattle.std.specs.Options.{mapped}
 use Rattle.std.specs.declared.option.Option.{Option}
 use Rattle.std.specs.declared.option.Option.the-variants.{Some, None}
-use Rattle.generics.specs.declared.kinds.Mark.{Mark}
-use Rattle.generics.specs.declared.kinds.GenericParam.{GenericParam}
-use Rattle.generics.specs.declared.kinds.Declaration.{Declaration}
-use Rattle.generics.specs.declared.kinds.RowKind.the-variants.{TraitSelf}
-use Rattle.generics.specs.declared.kinds.GenericDefKind.the-variants.{Function}
+use Rattle.definitions.specs.declared.kinds.Mark.{Mark}
+use Rattle.definitions.specs.declared.kinds.GenericParam.{GenericParam}
+use Rattle.definitions.specs.declared.kinds.Declaration.{Declaration}
+use Rattle.definitions.specs.declared.kinds.RowKind.the-variants.{TraitSelf}
+use Rattle.definitions.specs.declared.kinds.GenericDefKind.the-variants.{Function}
 use Rattle.generics.specs.declared.stored.Span.{Span}
 use Rattle.generics.specs.declared.stored.Row.{Row}
 use Rattle.generics.specs.declared.stored.Def.{Def}
-use Rattle.generics.specs.Definitions.{Param, Definition, rowTotal, markTotal}
+use Rattle.definitions.specs.Definitions.{Param, Definition, rowTotal, markTotal}
 
 -- a part of a list
 abbrev pub cut : {X : Type 0} → ℕ → ℕ → List X → List X

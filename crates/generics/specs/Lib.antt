@@ -1,8 +1,4 @@
 pub mod Declares
-pub mod Definitions
 pub mod Held
 pub mod Laid
 pub mod Lays
-pub mod Places
-pub mod Rules
-pub mod Terms

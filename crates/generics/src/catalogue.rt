@@ -2,10 +2,10 @@
 ghost use Prim.Native.Nat.{_≤_};
 ghost use Rattle.std.specs.Of.Vec.{vec-items, vec-cap};
 ghost use Rattle.generics.specs.Lays.{definitions, Within, Counted};
-ghost use Rattle.generics.specs.Rules.{Lawful, Limited};
-use crate::kinds::Mark;
+ghost use Rattle.definitions.specs.Rules.{Lawful, Limited};
 use crate::stored::Def;
 use crate::stored::Row;
+use definitions::kinds::Mark;
 
 // The declared definitions. Each follows the rules, so no catalogue that breaks them exists. Memory for 64
 // definitions, 512 rows and 2,048 marks is reserved when it is made.

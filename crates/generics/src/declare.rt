@@ -4,18 +4,20 @@ ghost use mathlib.Core.Bool.{true};
 ghost use mathlib.Core.List.{[], _∷_, _++_};
 ghost use lib.ListN.{length};
 ghost use Rattle.std.specs.Results.{Cases};
+ghost use Rattle.std.specs.Of.Vec.{vec-items};
 ghost use Rattle.std.specs.Vec.{made};
 ghost use Rattle.generics.specs.Declares.{Left, answer, declares, numberOf};
 ghost use Rattle.generics.specs.Held.{held};
 ghost use Rattle.generics.specs.Lays.{asked};
-ghost use Rattle.generics.specs.Rules.{follows, hasRoom};
+ghost use Rattle.definitions.specs.Rules.{follows, hasRoom};
 use crate::catalogue::Catalogue;
-use crate::kinds::Declaration;
 use crate::lay::lay_rows;
 use crate::lay::lay_term;
 use crate::rules::defaults_fit;
 use crate::rules::rows_fit;
 use crate::stored::Def;
+use definitions::kinds::Declaration;
+use definitions::kinds::Mark;
 use std::alloc::AllocError;
 use std::alloc::Global;
 
@@ -57,6 +59,20 @@ impl Catalogue {
         let rows = Vec::with_capacity(heap, 512)?;
         let marks = Vec::with_capacity(heap, 2048)?;
         Ok(Catalogue { defs, rows, marks })
+    }
+
+    // How many definitions are declared.
+    pub fn len(&self) -> usize
+        ensures { λ r. ⌜ r ≡ length (held (now (self .entry))) ⌝ }
+    {
+        self.defs.len()
+    }
+
+    // The marks of all defaults and bodies; a row or a definition holds a part of them.
+    pub fn marks(&self) -> &[Mark]
+        ensures { λ r. ⌜ now r ≡ vec-items (now (self .entry) .marks) ⌝ }
+    {
+        self.marks.as_slice()
     }
 
     // Appends a definition that follows the rules and fits.

@@ -5,13 +5,13 @@ ghost use Prim.Native.Nat.{_+_, _≤_};
 ghost use lib.ListN.{length};
 ghost use Rattle.std.specs.Of.Vec.{vec-cap, vec-items, vec-len};
 ghost use Rattle.std.specs.Options.{mapped};
-ghost use Rattle.generics.specs.Definitions.{defaultMarks, marksIn};
+ghost use Rattle.definitions.specs.Definitions.{defaultMarks, marksIn};
 ghost use Rattle.generics.specs.Laid.{flat, laid, marksOf, spanAt};
 ghost use Rattle.generics.specs.Lays.{paramsAsked};
-use crate::kinds::GenericParam;
-use crate::kinds::Mark;
 use crate::stored::Row;
 use crate::stored::Span;
+use definitions::kinds::GenericParam;
+use definitions::kinds::Mark;
 
 // Appends marks, for which memory is reserved, and answers the part that they are.
 fn lay_marks(marks: &mut Vec<Mark>, new: &[Mark]) -> Span

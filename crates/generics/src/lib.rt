@@ -1,13 +1,8 @@
-// Definitions and their generic parameters: a catalogue that only definitions following the rules enter.
+// The catalogue: definitions that follow the rules, and nothing else, enter it.
 pub mod catalogue;
 pub mod declare;
-pub mod kinds;
-pub mod laws;
 mod lay;
-pub mod names;
-pub mod places;
-mod ranks;
+pub mod ranks;
 mod rules;
 pub mod stored;
-pub mod tables;
 pub mod terms;

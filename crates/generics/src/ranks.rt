@@ -1,11 +1,11 @@
 // Rows counted by where they stand.
 ghost use mathlib.Core.Path.{_≡_};
 ghost use mathlib.Core.List.{map};
-ghost use Rattle.generics.specs.declared.kinds.RowKind.{RowKind};
-ghost use Rattle.generics.specs.Rules.{ranked};
-use crate::kinds::GenericParam;
-use crate::kinds::RowKind;
+ghost use Rattle.definitions.specs.declared.kinds.RowKind.{RowKind};
+ghost use Rattle.definitions.specs.Rules.{ranked};
 use crate::stored::Row;
+use definitions::kinds::GenericParam;
+use definitions::kinds::RowKind;
 
 // What is a row, declared or held.
 pub trait Ranked {
@@ -32,7 +32,7 @@ pub impl<'a> Ranked for GenericParam<'a> as AskedRow {
 }
 
 // How many rows have the rank.
-pub(crate) fn count_ranked<R: Ranked>(rows: &[R], rank: usize) -> usize
+pub fn count_ranked<R: Ranked>(rows: &[R], rank: usize) -> usize
     ensures { λ r. ⌜ r ≡ ranked rank (map (R·Ranked .shown) (now (rows .entry))) ⌝ }
 {
     let mut count = 0;

@@ -5,22 +5,22 @@ ghost use mathlib.Core.List.{map};
 ghost use lib.ListN.{length};
 ghost use Rattle.std.specs.Options.{mapped};
 ghost use Rattle.std.specs.Of.Vec.{vec-items};
-ghost use Rattle.generics.specs.Definitions.{defaultMarks, kindsOf, marksIn, parentRows};
+ghost use Rattle.definitions.specs.Definitions.{defaultMarks, kindsOf, marksIn, parentRows};
 ghost use Rattle.generics.specs.Held.{held, rowKinds, scopeKinds};
 ghost use Rattle.generics.specs.Lays.{Spelled, asked, paramAsked, paramOf, paramsAsked};
-ghost use Rattle.generics.specs.Rules.{bodyReads, defaultReads, defaultRight, defaultsRead, defaultsRight, hasRoom, inOrder, lessen, parentRight, rowsRight, termsRight};
-ghost use Rattle.generics.specs.Terms.{isTerm};
+ghost use Rattle.definitions.specs.Rules.{bodyReads, defaultReads, defaultRight, defaultsRead, defaultsRight, hasRoom, inOrder, lessen, parentRight, rowsRight, termsRight};
+ghost use Rattle.definitions.specs.Terms.{isTerm};
 use crate::catalogue::Catalogue;
-use crate::kinds::Declaration;
-use crate::kinds::GenericDefKind;
-use crate::kinds::GenericParam;
-use crate::kinds::Kind;
-use crate::kinds::Mark;
 use crate::ranks::AskedRow;
 use crate::ranks::count_ranked;
 use crate::stored::Row;
 use crate::terms::Scope;
 use crate::terms::term_end;
+use definitions::kinds::Declaration;
+use definitions::kinds::GenericDefKind;
+use definitions::kinds::GenericParam;
+use definitions::kinds::Kind;
+use definitions::kinds::Mark;
 
 // Whether no row stands behind one of a later rank.
 fn rows_in_order(rows: &[GenericParam]) -> bool
@@ -128,7 +128,7 @@ impl Catalogue {
     }
 
     // The rows of a parent; none where there is no parent.
-    pub(crate) fn parent_rows(&self, parent: Option<u32>) -> &[Row]
+    pub fn parent_rows(&self, parent: Option<u32>) -> &[Row]
         ensures kinds { λ r. ⌜ rowKinds (now r) ≡ kindsOf (parentRows (held (now (self .entry))) parent) ⌝ }
         ensures params { λ r. ⌜ map (paramOf (vec-items (now (self .entry) .marks))) (now r) ≡ parentRows (held (now (self .entry))) parent ⌝ }
         ensures within { λ r. ⌜ Spelled (vec-items (now (self .entry) .marks)) (now r) ⌝ }

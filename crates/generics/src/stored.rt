@@ -1,6 +1,6 @@
 // How the catalogue holds definitions: rows and marks lie one behind another in two lists.
-use crate::kinds::GenericDefKind;
-use crate::kinds::RowKind;
+use definitions::kinds::GenericDefKind;
+use definitions::kinds::RowKind;
 
 // A part of the catalogue's marks.
 #[derive(Clone, Copy)]

@@ -5,18 +5,18 @@ ghost use Prim.Native.Nat.{ℕ, _<_, _≤_};
 ghost use lib.ListN.{length, getD};
 ghost use Rattle.std.specs.Options.{Cases as BySome};
 ghost use Rattle.std.specs.Of.Vec.{vec-items};
-ghost use Rattle.generics.specs.declared.kinds.Kind.the-variants.{Lifetime};
-ghost use Rattle.generics.specs.Definitions.{definitionAt};
+ghost use Rattle.definitions.specs.declared.kinds.Kind.the-variants.{Lifetime};
+ghost use Rattle.definitions.specs.Definitions.{definitionAt};
 ghost use Rattle.generics.specs.Lays.{Spelled, definitionOf, paramOf};
 ghost use Rattle.generics.specs.Held.{held, defAt, rowsAt, rowKinds, scopeKinds};
-ghost use Rattle.generics.specs.Terms.{begins, slotsOf, Term, Slots};
+ghost use Rattle.definitions.specs.Terms.{begins, slotsOf, Term, Slots};
 use crate::catalogue::Catalogue;
-use crate::kinds::GenericDefKind;
-use crate::kinds::GenericParam;
-use crate::kinds::Kind;
-use crate::kinds::Mark;
 use crate::stored::Def;
 use crate::stored::Row;
+use definitions::kinds::GenericDefKind;
+use definitions::kinds::GenericParam;
+use definitions::kinds::Kind;
+use definitions::kinds::Mark;
 
 // The places that a term may refer to: the parent's rows, then own rows.
 #[derive(Clone, Copy)]
@@ -45,7 +45,7 @@ impl Scope<'_, '_, '_> {
 
 impl Catalogue {
     // A definition as it is held; one without rows where the number is not declared.
-    pub(crate) fn def_at(&self, def: u32) -> Def
+    pub fn def_at(&self, def: u32) -> Def
         ensures stored { λ r. ⌜ r ≡ defAt (now (self .entry)) def ⌝ }
         ensures means { λ r. ⌜ definitionOf (vec-items (now (self .entry) .rows)) (vec-items (now (self .entry) .marks)) r ≡ definitionAt (held (now (self .entry))) def ⌝ }
     {
@@ -64,7 +64,7 @@ impl Catalogue {
     }
 
     // A definition's own rows; none where the number is not declared.
-    pub(crate) fn own_rows(&self, def: u32) -> &[Row]
+    pub fn own_rows(&self, def: u32) -> &[Row]
         ensures rows { λ r. ⌜ now r ≡ rowsAt (now (self .entry)) def ⌝ }
         ensures params { λ r. ⌜ map (paramOf (vec-items (now (self .entry) .marks))) (now r) ≡ definitionAt (held (now (self .entry))) def .rows ⌝ }
         ensures within { λ r. ⌜ Spelled (vec-items (now (self .entry) .marks)) (now r) ⌝ }

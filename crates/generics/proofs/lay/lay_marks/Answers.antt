@@ -4,7 +4,7 @@ use native.Mathlib.Omega.{arith}
 use lib.ListN.{length, take}
 use Rattle.std.specs.Of.Vec.{vec-items}
 use Rattle.std.proofs.shelf.Lists.{take-all}
-use Rattle.generics.specs.declared.kinds.Mark.the-variants.{Ref}
+use Rattle.definitions.specs.declared.kinds.Mark.the-variants.{Ref}
 use Rattle.generics.proofs.Grown.{push-on}
 use Rattle.generics.proofs.lay.lay_marks.Needs as need
 

@@ -4,7 +4,7 @@ use native.Mathlib.Omega.{arith}
 use lib.ListN.{length, drop}
 use Rattle.std.specs.Of.Vec.{vec-items, vec-len}
 use Rattle.std.proofs.shelf.Lists.{at-drop-all}
-use Rattle.generics.specs.Definitions.{defaultMarks}
+use Rattle.definitions.specs.Definitions.{defaultMarks}
 use Rattle.generics.specs.Lays.{paramsAsked}
 use Rattle.generics.proofs.Grown.{rows-on, marks-on, rows-all, marks-all}
 use Rattle.generics.proofs.Walked.{marks-more}

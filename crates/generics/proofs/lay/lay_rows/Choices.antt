@@ -3,7 +3,7 @@ use mathlib.Core.List.{_++_}
 use Prim.Native.Nat.{_+_}
 use lib.ListN.{drop}
 use Rattle.std.specs.Of.Vec.{vec-cap, vec-items, vec-len}
-use Rattle.generics.specs.Definitions.{defaultMarks}
+use Rattle.definitions.specs.Definitions.{defaultMarks}
 use Rattle.generics.specs.Laid.{flat, laid}
 use Rattle.generics.specs.Lays.{paramsAsked}
 use Rattle.generics.proofs.lay.lay_rows.Given as given

@@ -3,8 +3,8 @@ use mathlib.Core.Bool.{Bool}
 use native.Mathlib.Omega.{arith}
 use lib.Dec.{eqb}
 use Rattle.std.proofs.shelf.Tests.{eq-eqb, ne-eqb}
-use Rattle.generics.specs.declared.kinds.RowKind.{RowKind}
-use Rattle.generics.specs.Rules.{rank}
+use Rattle.definitions.specs.declared.kinds.RowKind.{RowKind}
+use Rattle.definitions.specs.Rules.{rank}
 use Rattle.generics.proofs.Tallied.{counts, passes, counted}
 use Rattle.generics.proofs.ranks.count_ranked.Needs as need
 use Rattle.generics.proofs.ranks.count_ranked.Needs.{then-rank, else-rank}

@@ -1,6 +1,6 @@
 use lib.Dec.{eqb}
-use Rattle.generics.specs.declared.kinds.RowKind.{RowKind}
-use Rattle.generics.specs.Rules.{rank}
+use Rattle.definitions.specs.declared.kinds.RowKind.{RowKind}
+use Rattle.definitions.specs.Rules.{rank}
 use Rattle.generics.proofs.Tallied.{Counting}
 use Rattle.generics.proofs.ranks.count_ranked.Given as given
 

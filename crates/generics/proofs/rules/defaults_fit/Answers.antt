@@ -6,7 +6,7 @@ use Rattle.std.specs.Options.{isSome}
 use lib.ListN.{length, getD, drop}
 use Rattle.std.proofs.shelf.Lists.{at-drop-all}
 use Rattle.generics.specs.Lays.{paramAsked, paramsAsked}
-use Rattle.generics.specs.Rules.{defaultsRight}
+use Rattle.definitions.specs.Rules.{defaultsRight}
 use Rattle.generics.proofs.Walked.{noParam, defaults-stop, defaults-go}
 use Rattle.generics.proofs.rules.defaults_fit.Needs as need
 use Rattle.generics.proofs.rules.defaults_fit.Needs.{then-seen, else-seen}

@@ -2,7 +2,7 @@ use mathlib.Core.Path.{_≡_}
 use mathlib.Core.Bool.{false}
 use lib.ListN.{drop}
 use Rattle.generics.specs.Lays.{paramsAsked}
-use Rattle.generics.specs.Rules.{defaultsRight}
+use Rattle.definitions.specs.Rules.{defaultsRight}
 use Rattle.generics.proofs.rules.defaults_fit.Given as given
 
 abbrev pub Inv-loop-row : given.InvT-loop-row

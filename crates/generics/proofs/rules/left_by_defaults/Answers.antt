@@ -3,8 +3,8 @@ use Prim.Native.Nat.{_+_, _<_, _≤_}
 use lib.ListN.{length, getD, drop}
 use Rattle.std.proofs.shelf.Lists.{at-drop-all}
 use Rattle.generics.specs.Lays.{paramsAsked}
-use Rattle.generics.specs.Definitions.{defaultMarks}
-use Rattle.generics.specs.Rules.{lessen}
+use Rattle.definitions.specs.Definitions.{defaultMarks}
+use Rattle.definitions.specs.Rules.{lessen}
 use Rattle.generics.proofs.Walked.{noParam, marks-more, lessen-all, lessen-more, lessen-none}
 use Rattle.generics.proofs.rules.left_by_defaults.Needs as need
 

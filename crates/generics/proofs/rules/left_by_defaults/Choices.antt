@@ -1,8 +1,8 @@
 use mathlib.Core.Path.{_≡_}
 use lib.ListN.{drop}
-use Rattle.generics.specs.Definitions.{defaultMarks}
+use Rattle.definitions.specs.Definitions.{defaultMarks}
 use Rattle.generics.specs.Lays.{paramsAsked}
-use Rattle.generics.specs.Rules.{lessen}
+use Rattle.definitions.specs.Rules.{lessen}
 use Rattle.generics.proofs.rules.left_by_defaults.Given as given
 
 abbrev pub Inv-loop-row : given.InvT-loop-row

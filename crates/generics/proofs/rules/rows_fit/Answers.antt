@@ -7,9 +7,9 @@ use lib.ListN.{length, length-map}
 use Rattle.std.proofs.shelf.Tests.{le-leb, lt-leb, eq-eqb, ne-eqb, and-left, or-left}
 use Rattle.std.proofs.shelf.Ways.{tells}
 use Rattle.generics.specs.Lays.{paramAsked, paramsAsked}
-use Rattle.generics.specs.Rules.{ranked, selvesOf, isFunction}
-use Rattle.generics.specs.declared.kinds.GenericParam.{GenericParam}
-use Rattle.generics.specs.declared.kinds.RowKind.{RowKind}
+use Rattle.definitions.specs.Rules.{ranked, selvesOf, isFunction}
+use Rattle.definitions.specs.declared.kinds.GenericParam.{GenericParam}
+use Rattle.definitions.specs.declared.kinds.RowKind.{RowKind}
 use Rattle.generics.proofs.Walked.{rows-by, fails-third, fourth}
 use Rattle.generics.proofs.rules.rows_fit.Needs as need
 

@@ -4,7 +4,7 @@ use native.Mathlib.Omega.{arith}
 use lib.ListN.{length, getD, drop}
 use Rattle.std.proofs.shelf.Lists.{at-drop-all}
 use Rattle.generics.specs.Lays.{paramsAsked}
-use Rattle.generics.specs.Rules.{inOrder, rank}
+use Rattle.definitions.specs.Rules.{inOrder, rank}
 use Rattle.generics.proofs.Walked.{noParam, order-stops, order-goes}
 use Rattle.generics.proofs.rules.rows_in_order.Needs as need
 

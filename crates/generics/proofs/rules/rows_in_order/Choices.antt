@@ -1,7 +1,7 @@
 use mathlib.Core.Path.{_≡_}
 use lib.ListN.{drop}
 use Rattle.generics.specs.Lays.{paramsAsked}
-use Rattle.generics.specs.Rules.{inOrder}
+use Rattle.definitions.specs.Rules.{inOrder}
 use Rattle.generics.proofs.rules.rows_in_order.Given as given
 
 abbrev pub Inv-loop-row : given.InvT-loop-row

@@ -3,8 +3,9 @@ use Prim.Native.Nat.{ℕ, _<_}
 use borrow.Author.Needs.{needs}
 use native.Mathlib.Omega.{arith}
 use lib.ListN.{length}
-use Rattle.generics.specs.Terms.{Term}
-use Rattle.generics.proofs.Ends.{term-grows, term-within, inside, slots-none, slots-stop, slots-go, term-go, term-stop}
+use Rattle.definitions.specs.Terms.{Term}
+use Rattle.definitions.proofs.Ends.{term-grows, term-within, inside}
+use Rattle.generics.proofs.Slotted.{slots-none, slots-stop, slots-go, term-go, term-stop}
 use Rattle.generics.proofs.terms.+slots_end+term_end.Needs as need
 
 pub slots-end-returns-in-Break-next : need.slots-end-returns-in-Break-next

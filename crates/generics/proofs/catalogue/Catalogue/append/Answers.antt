@@ -7,13 +7,13 @@ use lib.ListN.{length}
 use Rattle.std.specs.Of.Vec.{vec-items, vec-len}
 use Rattle.std.specs.declared.option.Option.{Option}
 use Rattle.generics.specs.declared.catalogue.Catalogue.{Catalogue}
-use Rattle.generics.specs.declared.kinds.Declaration.{Declaration}
-use Rattle.generics.specs.declared.kinds.Mark.{Mark}
+use Rattle.definitions.specs.declared.kinds.Declaration.{Declaration}
+use Rattle.definitions.specs.declared.kinds.Mark.{Mark}
 use Rattle.generics.specs.declared.stored.Def.{Def}
 use Rattle.generics.specs.declared.stored.Row.{Row}
 use Rattle.generics.specs.declared.stored.Span.{Span}
-use Rattle.generics.specs.Rules.{follows, hasRoom}
-use Rattle.generics.specs.Definitions.{defaultMarks, marksIn}
+use Rattle.definitions.specs.Rules.{follows, hasRoom}
+use Rattle.definitions.specs.Definitions.{defaultMarks, marksIn}
 use Rattle.generics.specs.Held.{held}
 use Rattle.generics.specs.Laid.{spanAt, laid, flat, marksOf}
 use Rattle.generics.specs.Lays.{asked, definitions}

@@ -7,7 +7,7 @@ use Rattle.std.specs.Of.Vec.{vec-items}
 use Rattle.std.proofs.shelf.Lists.{getD-past, getD-read-under}
 use Rattle.generics.specs.declared.stored.Def.{Def}
 use Rattle.generics.specs.declared.catalogue.Catalogue.{Catalogue}
-use Rattle.generics.specs.Definitions.{definitionAt}
+use Rattle.definitions.specs.Definitions.{definitionAt}
 use Rattle.generics.specs.Lays.{noDef, definitionOf}
 use Rattle.generics.specs.Held.{held, defAt}
 use Rattle.generics.proofs.Found.{defs-at}

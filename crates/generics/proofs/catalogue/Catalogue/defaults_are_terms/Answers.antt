@@ -8,11 +8,11 @@ use lib.ListN.{length, getD, take, drop}
 use denote.Ref.{now}
 use Rattle.std.proofs.shelf.Lists.{at-drop-all}
 use Rattle.std.specs.Options.{mapped}
-use Rattle.generics.specs.Definitions.{kindOf}
+use Rattle.definitions.specs.Definitions.{kindOf}
 use Rattle.generics.specs.Held.{held, rowKinds, askedKinds}
 use Rattle.generics.specs.Lays.{paramAsked, paramsAsked}
-use Rattle.generics.specs.Rules.{defaultReads, defaultsRead}
-use Rattle.generics.specs.Terms.{isTerm}
+use Rattle.definitions.specs.Rules.{defaultReads, defaultsRead}
+use Rattle.definitions.specs.Terms.{isTerm}
 use Rattle.generics.proofs.Walked.{noParam, reads-stop, reads-go}
 use Rattle.generics.proofs.catalogue.Catalogue.defaults_are_terms.Needs as need
 

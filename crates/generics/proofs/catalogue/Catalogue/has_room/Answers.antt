@@ -8,11 +8,11 @@ use Rattle.std.specs.Of.Vec.{vec-items, vec-len}
 use Rattle.std.proofs.shelf.Ways.{tells}
 use Rattle.std.proofs.shelf.Tests.{lt-ltb, le-ltb, le-leb, lt-leb, and-left, and-right}
 use Rattle.generics.specs.declared.catalogue.Catalogue.{Catalogue}
-use Rattle.generics.specs.declared.kinds.Declaration.{Declaration}
-use Rattle.generics.specs.Definitions.{rowTotal, markTotal, marksIn, defaultMarks}
+use Rattle.definitions.specs.declared.kinds.Declaration.{Declaration}
+use Rattle.definitions.specs.Definitions.{rowTotal, markTotal, marksIn, defaultMarks}
 use Rattle.generics.specs.Held.{held}
 use Rattle.generics.specs.Lays.{definitionOf, paramAsked, paramsAsked, asked}
-use Rattle.generics.specs.Rules.{hasRoom}
+use Rattle.definitions.specs.Rules.{hasRoom}
 use Rattle.generics.proofs.Sizes.{defs-long, rows-long, marks-long, asked-long}
 use Rattle.generics.proofs.Walked.{lessen-left, room-moved, defs-full, rows-full, marks-decide}
 use Rattle.generics.proofs.catalogue.Catalogue.has_room.Needs as need

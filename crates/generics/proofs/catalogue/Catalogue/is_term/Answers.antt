@@ -3,9 +3,9 @@ use mathlib.Core.Path.{sym, ap, _∙_}
 use lib.ListN.{length}
 use Rattle.std.proofs.shelf.Tests.{le-leb}
 use mathlib.Core.Bool.{_&&_}
-use Rattle.generics.proofs.Scans.{ends-at, ends-nowhere}
+use Rattle.definitions.proofs.Scans.{ends-at, ends-nowhere}
 use Rattle.generics.specs.Held.{held, scopeKinds}
-use Rattle.generics.specs.Terms.{reads}
+use Rattle.definitions.specs.Terms.{reads}
 
 pub returns-in-Some : need.returns-in-Some
 returns-in-Some c = rw (le-leb (length (c .args .marks .now)) 32 (c .if-marks-gt32 .left)) (ends-at _ _ _ _ _ (c .in-Some .ensures tt))

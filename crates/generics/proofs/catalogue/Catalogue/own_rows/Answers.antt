@@ -5,7 +5,7 @@ use native.Mathlib.Omega.{arith}
 use lib.ListN.{length, take, drop}
 use Rattle.std.specs.Of.Vec.{vec-items}
 use Rattle.generics.specs.declared.stored.Def.{Def}
-use Rattle.generics.specs.Definitions.{Definition}
+use Rattle.definitions.specs.Definitions.{Definition}
 use Rattle.generics.specs.Held.{rowsAt}
 use Rattle.generics.specs.Lays.{Spelled, cut, paramOf}
 use Rattle.generics.proofs.Found.{defs-at, rows-within, spelled-at}

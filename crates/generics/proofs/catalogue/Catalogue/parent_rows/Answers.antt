@@ -1,6 +1,6 @@
 use mathlib.Core.Path.{ap, sym, _∙_}
 use Rattle.std.specs.Of.Vec.{vec-items}
-use Rattle.generics.specs.Definitions.{kindsOf, parentRows}
+use Rattle.definitions.specs.Definitions.{kindsOf, parentRows}
 use Rattle.generics.specs.Held.{held, rowKinds}
 use Rattle.generics.proofs.Found.{kinds-at}
 use Rattle.generics.proofs.catalogue.Catalogue.parent_rows.Needs as need

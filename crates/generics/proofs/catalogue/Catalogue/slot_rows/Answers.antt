@@ -1,7 +1,7 @@
 use mathlib.Core.Path.{ap, sym, _∙_}
 use Rattle.std.specs.Of.Vec.{vec-items}
 use Rattle.generics.specs.Held.{held, rowKinds}
-use Rattle.generics.specs.Terms.{slotsOf}
+use Rattle.definitions.specs.Terms.{slotsOf}
 use Rattle.generics.proofs.Found.{kinds-at}
 use Rattle.generics.proofs.catalogue.Catalogue.slot_rows.Needs as need
 

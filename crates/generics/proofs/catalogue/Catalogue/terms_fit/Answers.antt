@@ -2,7 +2,7 @@ use mathlib.Core.Path.{_≡_, refl, sym, ap, _∙_}
 use mathlib.Core.Bool.{_&&_}
 use Rattle.generics.specs.Held.{held, rowKinds, scopeKinds}
 use Rattle.generics.specs.Lays.{asked}
-use Rattle.generics.specs.Rules.{bodyReads}
+use Rattle.definitions.specs.Rules.{bodyReads}
 use Rattle.generics.proofs.Walked.{terms-by}
 use Rattle.generics.proofs.catalogue.Catalogue.terms_fit.Needs as need
 

@@ -1,9 +1,9 @@
 use mathlib.Core.Path.{_∙_}
-use Rattle.generics.specs.declared.kinds.Kind.{Kind}
-use Rattle.generics.specs.declared.kinds.Kind.the-variants.{Lifetime}
-use Rattle.generics.specs.declared.kinds.GenericParam.{GenericParam}
+use Rattle.definitions.specs.declared.kinds.Kind.{Kind}
+use Rattle.definitions.specs.declared.kinds.Kind.the-variants.{Lifetime}
+use Rattle.definitions.specs.declared.kinds.GenericParam.{GenericParam}
 use Rattle.generics.specs.declared.stored.Row.{Row}
-use Rattle.generics.specs.Definitions.{kindOf}
+use Rattle.definitions.specs.Definitions.{kindOf}
 use Rattle.generics.proofs.Found.{first-of, second-of, past-both}
 use Rattle.generics.proofs.terms.Scope.kind_at.Needs as need
 

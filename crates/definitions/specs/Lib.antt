@@ -1,0 +1,3 @@
+pub mod Definitions
+pub mod Rules
+pub mod Terms

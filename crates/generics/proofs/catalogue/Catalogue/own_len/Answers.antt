@@ -1,8 +1,0 @@
-use mathlib.Core.Path.{_≡_, sym, ap, _∙_}
-use lib.ListN.{length, length-map}
-use Rattle.std.specs.Of.Vec.{vec-items}
-use Rattle.generics.specs.Lays.{paramOf}
-use Rattle.generics.proofs.catalogue.Catalogue.own_len.Needs as need
-
-pub returns : need.returns
-returns c = sym (length-map (c .own-rows .result .now) (paramOf (vec-items (c .args .self .now .marks)))) ∙ ap length (c .own-rows .ensures .params)
