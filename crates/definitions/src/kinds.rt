@@ -50,11 +50,11 @@ pub struct GenericParam<'a> {
 
 // A definition as it is declared.
 #[derive(Clone, Copy)]
-pub struct Declaration<'a> {
+pub struct Declaration<'a, 'b, 'c> {
     pub kind: GenericDefKind,
     pub parent: Option<u32>,
-    pub rows: &'a [GenericParam<'a>],
-    pub body: Option<&'a [Mark]>,
+    pub rows: &'a [GenericParam<'b>],
+    pub body: Option<&'c [Mark]>,
 }
 
 // The name of a parameter: its definition, whether it is a lifetime, and its number among the definition's

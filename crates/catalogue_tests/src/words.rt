@@ -1,0 +1,113 @@
+// Declarations in few words.
+use definitions::kinds::Declaration;
+use definitions::kinds::GenericDefKind;
+use definitions::kinds::GenericParam;
+use definitions::kinds::Mark;
+use definitions::kinds::RowKind;
+use generics::catalogue::Catalogue;
+use std::alloc::AllocError;
+use std::alloc::Global;
+
+pub const BASE: &[Mark] = &[Mark::Base(7)];
+
+pub const VALUE: &[Mark] = &[Mark::Value(30)];
+
+pub const REGION: &[Mark] = &[Mark::Region(0)];
+
+// A row without a default.
+pub fn row(kind: RowKind) -> GenericParam<'static> {
+    GenericParam {
+        kind,
+        default: None,
+    }
+}
+
+// A row with a default.
+pub fn row_or(kind: RowKind, marks: &[Mark]) -> GenericParam<'_> {
+    GenericParam {
+        kind,
+        default: Some(marks),
+    }
+}
+
+// The row that a letter stands for: S L T C I, and the small letter for one with a default of its kind.
+pub fn row_of(letter: u8) -> GenericParam<'static> {
+    match letter {
+        b'S' => row(RowKind::TraitSelf),
+        b's' => row_or(RowKind::TraitSelf, BASE),
+        b'L' => row(RowKind::Lifetime),
+        b'l' => row_or(RowKind::Lifetime, REGION),
+        b'T' => row(RowKind::Type),
+        b't' => row_or(RowKind::Type, BASE),
+        b'C' => row(RowKind::Const),
+        b'c' => row_or(RowKind::Const, VALUE),
+        b'i' => row_or(RowKind::ImplTrait, BASE),
+        _ => row(RowKind::ImplTrait),
+    }
+}
+
+pub fn rows_of(heap: Global, letters: &[u8]) -> Result<Vec<GenericParam<'static>>, AllocError> {
+    let mut rows = Vec::new(heap);
+    for letter in letters {
+        rows.push(row_of(*letter))?;
+    }
+    Ok(rows)
+}
+
+// What declaring answers: the number of the definition, or of the refusal.
+pub fn answered(cat: &mut Catalogue, d: Declaration) -> Result<u32, u32> {
+    match cat.declare(d) {
+        Ok(number) => Ok(number),
+        Err(refusal) => Err(refusal.number()),
+    }
+}
+
+// A declaration without a body.
+fn plain<'a, 'b>(
+    kind: GenericDefKind,
+    parent: Option<u32>,
+    rows: &'a [GenericParam<'b>],
+) -> Declaration<'a, 'b, 'static> {
+    Declaration {
+        kind,
+        parent,
+        rows,
+        body: None,
+    }
+}
+
+// The same without a body.
+pub fn tried(
+    cat: &mut Catalogue,
+    kind: GenericDefKind,
+    parent: Option<u32>,
+    rows: &[GenericParam],
+) -> Result<u32, u32> {
+    answered(cat, plain(kind, parent, rows))
+}
+
+// The same with a body.
+pub fn bodied(
+    cat: &mut Catalogue,
+    kind: GenericDefKind,
+    parent: Option<u32>,
+    rows: &[GenericParam],
+    body: &[Mark],
+) -> Result<u32, u32> {
+    let d = Declaration {
+        kind,
+        parent,
+        rows,
+        body: Some(body),
+    };
+    answered(cat, d)
+}
+
+// The same for a type, and for an alias.
+pub fn adt(cat: &mut Catalogue, rows: &[GenericParam]) -> Result<u32, u32> {
+    tried(cat, GenericDefKind::Adt, None, rows)
+}
+
+pub fn alias(cat: &mut Catalogue, rows: &[GenericParam], body: &[Mark]) -> Result<u32, u32> {
+    bodied(cat, GenericDefKind::TypeAlias, None, rows, body)
+}
