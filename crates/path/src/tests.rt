@@ -1,6 +1,3 @@
-use crate::checked::CheckRefusal;
-use crate::checked::CheckRefusalDebug;
-use crate::checked::CheckRefusalPartialEq;
 use crate::checked::check_path;
 use crate::segments::GenericArgs;
 use crate::segments::PathSegment;
@@ -31,31 +28,31 @@ fn prohibited(segment: u32, reason: GenericArgsProhibitedReason) -> PathLowering
     PathLoweringDiagnostic::GenericArgsProhibited { segment, reason }
 }
 
-// The number of the resolved segment, or 100 and the number of the refusal.
+// The number of the resolved segment, or that of the refusal.
 fn answer<R: ReportList>(
     segments: &[PathSegment],
     kind: TypeNs,
     remaining: Option<usize>,
     reports: &mut R,
-) -> usize {
+) -> Result<usize, u32> {
     match check_path(segments, Resolution { kind, remaining }, reports) {
-        Ok(path) => path.segment(),
-        Err(refusal) => 100 + refusal.number() as usize,
+        Ok(path) => Ok(path.segment()),
+        Err(refusal) => Err(refusal.number()),
     }
 }
 
 #[test]
 fn limits() -> Result<(), Fail> {
     let mut list = OwnReports::new();
-    check_eq(answer(&[BARE; 16], TypeNs::Adt, None, &mut list), 15)?;
-    check_eq(answer(&[BARE; 17], TypeNs::Adt, None, &mut list), 111)?;
-    check_eq(answer(&[BARE; 3], TypeNs::Adt, Some(1), &mut list), 0)?;
-    check_eq(answer(&[BARE; 3], TypeNs::Adt, Some(3), &mut list), 2)?;
-    check_eq(answer(&[BARE; 3], TypeNs::Adt, Some(0), &mut list), 112)?;
-    check_eq(answer(&[BARE; 3], TypeNs::Adt, Some(4), &mut list), 112)?;
-    check_eq(answer(&[], TypeNs::SelfType, None, &mut list), 0)?;
-    check_eq(answer(&[], TypeNs::SelfType, Some(0), &mut list), 0)?;
-    check_eq(answer(&[], TypeNs::SelfType, Some(9), &mut list), 0)?;
+    check_eq(answer(&[BARE; 16], TypeNs::Adt, None, &mut list), Ok(15))?;
+    check_eq(answer(&[BARE; 17], TypeNs::Adt, None, &mut list), Err(11))?;
+    check_eq(answer(&[BARE; 3], TypeNs::Adt, Some(1), &mut list), Ok(0))?;
+    check_eq(answer(&[BARE; 3], TypeNs::Adt, Some(3), &mut list), Ok(2))?;
+    check_eq(answer(&[BARE; 3], TypeNs::Adt, Some(0), &mut list), Err(12))?;
+    check_eq(answer(&[BARE; 3], TypeNs::Adt, Some(4), &mut list), Err(12))?;
+    check_eq(answer(&[], TypeNs::SelfType, None, &mut list), Ok(0))?;
+    check_eq(answer(&[], TypeNs::SelfType, Some(0), &mut list), Ok(0))?;
+    check_eq(answer(&[], TypeNs::SelfType, Some(9), &mut list), Ok(0))?;
     check_eq(list.told(), 0)
 }
 
@@ -63,10 +60,16 @@ fn limits() -> Result<(), Fail> {
 fn room() -> Result<(), Fail> {
     let mut places = [prohibited(0, GenericArgsProhibitedReason::Module); 2];
     let mut list = LentReports::new(&mut places);
-    check_eq(answer(&[BARE; 2], TypeNs::Adt, None, &mut list), 1)?;
-    check_eq(answer(&[BARE; 3], TypeNs::Adt, None, &mut list), 113)?;
-    check_eq(answer(&[LISTED; 3], TypeNs::Adt, Some(4), &mut list), 112)?;
-    check_eq(answer(&[LISTED; 17], TypeNs::Adt, Some(0), &mut list), 111)?;
+    check_eq(answer(&[BARE; 2], TypeNs::Adt, None, &mut list), Ok(1))?;
+    check_eq(answer(&[BARE; 3], TypeNs::Adt, None, &mut list), Err(13))?;
+    check_eq(
+        answer(&[LISTED; 3], TypeNs::Adt, Some(4), &mut list),
+        Err(12),
+    )?;
+    check_eq(
+        answer(&[LISTED; 17], TypeNs::Adt, Some(0), &mut list),
+        Err(11),
+    )?;
     check_eq(list.told(), 0)
 }
 
@@ -80,7 +83,7 @@ fn reports() -> Result<(), Fail> {
             Some(4),
             &mut list,
         ),
-        3,
+        Ok(3),
     )?;
     check_eq(list.told(), 3)?;
     check_eq(
@@ -95,9 +98,12 @@ fn reports() -> Result<(), Fail> {
         list.report(2),
         Some(prohibited(3, GenericArgsProhibitedReason::PrimitiveTy)),
     )?;
-    check_eq(answer(&[LISTED], TypeNs::Trait, None, &mut list), 0)?;
+    check_eq(answer(&[LISTED], TypeNs::Trait, None, &mut list), Ok(0))?;
     check_eq(list.told(), 3)?;
-    check_eq(answer(&[LISTED], TypeNs::GenericParam, None, &mut list), 0)?;
+    check_eq(
+        answer(&[LISTED], TypeNs::GenericParam, None, &mut list),
+        Ok(0),
+    )?;
     check_eq(
         list.report(3),
         Some(prohibited(0, GenericArgsProhibitedReason::TyParam)),
