@@ -7,7 +7,8 @@ mod list;
 
 pub use list::LentReportList;
 
-// A report list in the caller's memory, of whose places the first `count` were told.
+// A report list in the caller's memory, of whose places the first `count` were told. The reports are read from the
+// list; what the memory holds afterwards is not promised.
 #[derive(Drop)]
 pub struct LentReports<'a> {
     places: &'a mut [PathLoweringDiagnostic],

@@ -5,7 +5,7 @@ use mathlib.Core.List.{List, _++_}
 use Prim.Native.Nat.{ℕ, _-_, _≤_}
 use native.Mathlib.Omega.{arith}
 use lib.Dec.{ltb}
-use lib.ListN.{length, take}
+use lib.ListN.{take}
 use borrow.Author.Tests.{ltb-false}
 use Rattle.std.specs.declared.option.Option.{Option}
 use Rattle.diagnostics.specs.Tells.{View, ToldAll}
@@ -13,7 +13,7 @@ use Rattle.diagnostics.proofs.Tellings.{told-then}
 use Rattle.path.specs.declared.segments.PathSegment.{PathSegment}
 use Rattle.path.specs.declared.segments.Resolution.{Resolution}
 use Rattle.path.specs.Checks.{CheckAnswer, passes, refused, badIndex, checkRule}
-use Rattle.path.specs.Prohibits.{reasonOf, resolvedSegment, listAt, reportOn, reportsOn, prohibited}
+use Rattle.path.specs.Prohibits.{reasonOf, resolvedSegment, resolvedOf, listAt, reportOn, reportsOn, prohibited}
 
 pub record Passing (count : ℕ) (remaining : Option ℕ) (room s : ℕ) : Type 0 where
   pub few : count ≤ 16
@@ -32,7 +32,7 @@ passing count remaining room s e =
     record { few = omega (arith, ltb-false 16 count (t .0)); enough = omega (arith, ltb-false room count (t .1)); segment = t .2 }
 
 -- the modules and then the resolved segment
-pub told-path : (segments : List PathSegment) (r : Resolution) (s : ℕ) (u v w : View) → s ≡ resolvedSegment (length segments) (r .remaining) → ToldAll (reportsOn 0 (take (s - 0) segments)) u v → ToldAll (reportOn s (listAt segments s) (reasonOf (r .kind))) v w → ToldAll (prohibited segments r) u w
+pub told-path : (segments : List PathSegment) (r : Resolution) (s : ℕ) (u v w : View) → s ≡ resolvedOf segments r → ToldAll (reportsOn 0 (take (s - 0) segments)) u v → ToldAll (reportOn s (listAt segments s) (reasonOf (r .kind))) v w → ToldAll (prohibited segments r) u w
 told-path segments r s u v w e p q =
     let z : s - 0 ≡ s = omega arith in
     let both = told-then (reportsOn 0 (take s segments)) (reportOn s (listAt segments s) (reasonOf (r .kind))) u v w (rw z at p) q in

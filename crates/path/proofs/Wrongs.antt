@@ -17,7 +17,7 @@ use Rattle.diagnostics.specs.declared.reports.PathLoweringDiagnostic.the-varian
 use Rattle.path.specs.declared.segments.GenericArgs.{GenericArgs}
 use Rattle.path.specs.declared.segments.PathSegment.{PathSegment}
 use Rattle.path.specs.declared.segments.Resolution.{Resolution}
-use Rattle.path.specs.Prohibits.{reasonOf, resolvedSegment, listAt, reportOn, reportsOn, prohibited, Wrong, Among, Upward, Exactly}
+use Rattle.path.specs.Prohibits.{reasonOf, resolvedOf, listAt, reportOn, reportsOn, prohibited, Wrong, Among, Upward, Exactly}
 
 apart : (d : PathLoweringDiagnostic) (xs ys : List PathLoweringDiagnostic) → Among d (xs ++ ys) → Among d xs ⊎ Among d ys
 apart d [] ys a = inr a
@@ -96,7 +96,7 @@ up-all i n (x ∷ xs) rest h f =
 
 pub exactly : (segments : List PathSegment) (r : Resolution) → Exactly segments r (prohibited segments r)
 exactly segments r =
-    let n = resolvedSegment (length segments) (r .remaining) in
+    let n = resolvedOf segments r in
     let modules = reportsOn 0 (take n segments) in
     let last = reportOn n (listAt segments n) (reasonOf (r .kind)) in
     record {

@@ -36,6 +36,10 @@ abbrev pub resolvedSegment : ℕ → Option ℕ → ℕ
 resolvedSegment count None = count - 1
 resolvedSegment count (Some index) = cond (eqb count 0) 0 (index - 1)
 
+-- the number of the resolved segment of a path
+abbrev pub resolvedOf : List PathSegment → Resolution → ℕ
+resolvedOf segments r = resolvedSegment (length segments) (r .remaining)
+
 -- the list of segment i, if it has one
 abbrev pub listAt : List PathSegment → ℕ → Option GenericArgs
 listAt segments i = getD segments i (record { args = None }) .args
@@ -53,13 +57,12 @@ reportsOn i (s ∷ more) = reportOn i (s .args) (Some reason.Module) ++ reportsO
 
 -- the reports about a path, in order: those about the modules before the resolved segment, then that about it
 abbrev pub prohibited : List PathSegment → Resolution → List PathLoweringDiagnostic
-prohibited segments r =
-    reportsOn 0 (take (resolvedSegment (length segments) (r .remaining)) segments) ++ reportOn (resolvedSegment (length segments) (r .remaining)) (listAt segments (resolvedSegment (length segments) (r .remaining))) (reasonOf (r .kind))
+prohibited segments r = reportsOn 0 (take (resolvedOf segments r) segments) ++ reportOn (resolvedOf segments r) (listAt segments (resolvedOf segments r)) (reasonOf (r .kind))
 
 -- segment i has a list and may have none: it is a module, or the resolved segment where there is a reason
 pub record Wrong (segments : List PathSegment) (r : Resolution) (i : ℕ) (why : GenericArgsProhibitedReason) : Type 0 where
   pub has-list : isSome (listAt segments i) ≡ true
-  pub may-not : ((i < resolvedSegment (length segments) (r .remaining)) × (why ≡ reason.Module)) ⊎ ((i ≡ resolvedSegment (length segments) (r .remaining)) × (reasonOf (r .kind) ≡ Some why))
+  pub may-not : ((i < resolvedOf segments r) × (why ≡ reason.Module)) ⊎ ((i ≡ resolvedOf segments r) × (reasonOf (r .kind) ≡ Some why))
 
 -- a report is one of a list
 abbrev pub Among : PathLoweringDiagnostic → List PathLoweringDiagnostic → Type 0

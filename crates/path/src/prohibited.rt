@@ -39,7 +39,7 @@ fn tell_list<R: ReportList>(
 }
 
 // Tells a report about each module that has a list.
-pub fn tell_modules<R: ReportList>(modules: &[PathSegment], reports: &mut R)
+pub(crate) fn tell_modules<R: ReportList>(modules: &[PathSegment], reports: &mut R)
     requires short { ⌜ length (now modules) ≤ 16 ⌝ }
     requires room { ⌜ length (now modules) ≤ R·ReportList .view (now reports) .room ⌝ }
     ensures { λ _. ⌜ ToldAll (reportsOn 0 (now (modules .entry))) (R·ReportList .view (now (reports .entry))) (R·ReportList .view (now (reports .exit))) ⌝ }
@@ -55,7 +55,7 @@ pub fn tell_modules<R: ReportList>(modules: &[PathSegment], reports: &mut R)
 }
 
 // Tells a report about the resolved segment, if there is one, and it has a list and may have none.
-pub fn tell_resolved<R: ReportList>(
+pub(crate) fn tell_resolved<R: ReportList>(
     segments: &[PathSegment],
     resolved: usize,
     kind: TypeNs,
