@@ -25,7 +25,7 @@ pub record Told (r : PathLoweringDiagnostic) (v w : View) : Type 0 where
   pub full : v .room ≡ 0 → (w .told ≡ v .told) × (w .room ≡ v .room)
   pub stock : w .stock ≡ v .stock
 
--- several tells, all of which had room
+-- tells of these reports, in order, all of which had room
 pub record ToldAll (rs : List PathLoweringDiagnostic) (v w : View) : Type 0 where
   pub told : w .told ≡ v .told ++ rs
   pub room : w .room + length rs ≡ v .room

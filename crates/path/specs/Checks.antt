@@ -22,6 +22,7 @@ pub data CheckAnswer : Type 0 where
   passes : ℕ → CheckAnswer
   refused : ℕ → CheckAnswer
 
+-- what was answered
 abbrev pub checkAnswer : Result CheckedPath CheckRefusal → CheckAnswer
 checkAnswer (Ok path) = passes (path .segment)
 checkAnswer (Err e) = refused (refusalNumber e)
@@ -31,6 +32,6 @@ abbrev pub badIndex : ℕ → Option ℕ → Bool
 badIndex count None = false
 badIndex count (Some index) = ltb 0 count && (eqb index 0 || ltb count index)
 
--- the answer for a path of `count` segments, told to a list with that room
+-- what is to be answered for `count` segments, with that room in the report list; the first cause decides
 abbrev pub checkRule : ℕ → Option ℕ → ℕ → CheckAnswer
 checkRule count remaining room = cond (ltb 16 count) (refused 11) (cond (badIndex count remaining) (refused 12) (cond (ltb room count) (refused 13) (passes (resolvedSegment count remaining))))
