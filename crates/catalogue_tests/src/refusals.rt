@@ -1,6 +1,5 @@
 // Each refusal, and its place before the next ones.
 use crate::words::BASE;
-use crate::words::VALUE;
 use crate::words::adt;
 use crate::words::alias;
 use crate::words::bodied;
@@ -34,7 +33,7 @@ fn stocked(heap: Global) -> Result<Catalogue, AllocError> {
     Ok(cat)
 }
 
-const CASES: [Case; 32] = [
+const CASES: [Case; 34] = [
     // a parent
     Case {
         kind: GenericDefKind::Adt,
@@ -221,7 +220,19 @@ const CASES: [Case; 32] = [
         rows: b"tT",
         answer: Err(3),
     },
-    // terms
+    // terms: a constant with a type as default, a type with a value
+    Case {
+        kind: GenericDefKind::Adt,
+        parent: None,
+        rows: b"x",
+        answer: Err(4),
+    },
+    Case {
+        kind: GenericDefKind::Adt,
+        parent: None,
+        rows: b"y",
+        answer: Err(4),
+    },
     Case {
         kind: GenericDefKind::TypeAlias,
         parent: None,
@@ -287,12 +298,9 @@ fn defaults(rt: LibcRuntime) -> Result<(), Fail> {
     let marks = [Mark::Ref(0), Mark::Ref(2)];
     let mut cat = stocked(rt.alloc())?;
     let function = GenericDefKind::Function;
-    let rows = [row_or(RowKind::Type, &marks[0..1]), row_or(RowKind::Type, &marks[1..2])];
+    let mut rows = [row_or(RowKind::Type, &marks[0..1]); 2];
+    rows[1] = row_or(RowKind::Type, &marks[1..2]);
     check_eq(tried(&mut cat, function, Some(1), &rows), Ok(4))?;
     check_eq(tried(&mut cat, function, None, &rows[0..1]), Err(4))?;
-    check_eq(tried(&mut cat, function, Some(1), &rows[1..2]), Err(4))?;
-    let wrong = [row_or(RowKind::Const, BASE)];
-    check_eq(adt(&mut cat, &wrong), Err(4))?;
-    let wrong = [row_or(RowKind::Type, VALUE)];
-    check_eq(adt(&mut cat, &wrong), Err(4))
+    check_eq(tried(&mut cat, function, Some(1), &rows[1..2]), Err(4))
 }

@@ -30,7 +30,8 @@ pub fn row_or(kind: RowKind, marks: &[Mark]) -> GenericParam<'_> {
     }
 }
 
-// The row that a letter stands for: S L T C I, and the small letter for one with a default of its kind.
+// The row that a letter stands for: S L T C I, and the small letter for one with a
+// default of its kind; x and y are a const and a type row with a default of the other's kind.
 pub fn row_of(letter: u8) -> GenericParam<'static> {
     match letter {
         b'S' => row(RowKind::TraitSelf),
@@ -41,6 +42,8 @@ pub fn row_of(letter: u8) -> GenericParam<'static> {
         b't' => row_or(RowKind::Type, BASE),
         b'C' => row(RowKind::Const),
         b'c' => row_or(RowKind::Const, VALUE),
+        b'x' => row_or(RowKind::Const, BASE),
+        b'y' => row_or(RowKind::Type, VALUE),
         b'i' => row_or(RowKind::ImplTrait, BASE),
         _ => row(RowKind::ImplTrait),
     }
