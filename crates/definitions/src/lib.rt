@@ -1,4 +1,3 @@
 // Definitions and their generic parameters, and the rules that they follow.
 pub mod kinds;
-pub mod laws;
 pub mod tables;

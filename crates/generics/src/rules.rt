@@ -9,7 +9,7 @@ ghost use Rattle.definitions.specs.Definitions.{defaultMarks, kindsOf, marksIn,
 ghost use Rattle.generics.specs.Held.{held, rowKinds, scopeKinds};
 ghost use Rattle.generics.specs.Lays.{Spelled, asked, paramAsked, paramOf, paramsAsked};
 ghost use Rattle.definitions.specs.Rules.{bodyReads, defaultReads, defaultRight, defaultsRead, defaultsRight, hasRoom, inOrder, lessen, parentRight, rowsRight, termsRight};
-ghost use Rattle.definitions.specs.Terms.{isTerm};
+ghost use Rattle.definitions.specs.Terms.{ReadsTerms, isTerm};
 use crate::catalogue::Catalogue;
 use crate::ranks::AskedRow;
 use crate::ranks::count_ranked;
@@ -114,9 +114,10 @@ impl Catalogue {
         }
     }
 
-    // Whether the marks are one term of the kind.
-    fn is_term(&self, scope: Scope, marks: &[Mark], kind: Kind) -> bool
-        ensures { λ r. ⌜ r ≡ isTerm (held (now (self .entry))) (scopeKinds (scope .entry)) kind (now (marks .entry)) ⌝ }
+    // Whether the marks are one term of the kind. The test that says so is the relation that the ends are found by.
+    pub fn is_term(&self, scope: Scope, marks: &[Mark], kind: Kind) -> bool
+        ensures relation { λ _. ⌜ ReadsTerms ⌝ }
+        ensures test { λ r. ⌜ r ≡ isTerm (held (now (self .entry))) (scopeKinds (scope .entry)) kind (now (marks .entry)) ⌝ }
     {
         if marks.len() > 32 {
             return false;

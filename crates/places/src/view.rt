@@ -71,7 +71,7 @@ impl<'a> Generics<'a> {
     pub fn len_parent(&self) -> usize
         ensures { λ r. ⌜ r ≡ length (parentRows (among (now (self .entry))) (meant (now (self .entry)) .parent)) ⌝ }
     {
-        self.cat.parent_rows(self.cat.def_at(self.def).parent).len()
+        self.cat.parent_rows(self.parent()).len()
     }
 
     // How many rows it has of its own.
@@ -93,7 +93,7 @@ impl<'a> Generics<'a> {
         ensures param { λ r. ⌜ mapped (paramOf (vec-items (now (now (self .entry) .cat) .marks))) r ≡ paramAt (among (now (self .entry))) (now (self .entry) .def) place ⌝ }
         ensures within { λ r. ⌜ BySome r (Unit {0}) (λ row. endOf (row .default) ≤ length (vec-items (now (now (self .entry) .cat) .marks))) ⌝ }
     {
-        let parent = self.cat.parent_rows(self.cat.def_at(self.def).parent);
+        let parent = self.cat.parent_rows(self.parent());
         let own = self.cat.own_rows(self.def);
         let before = parent.len();
         if place < before {

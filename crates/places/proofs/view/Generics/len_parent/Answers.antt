@@ -9,4 +9,4 @@ use Rattle.places.proofs.view.Generics.len_parent.Needs as need
 pub returns : need.returns
 returns c =
     let cat = c .args .self .now .cat .now in
-    sym (length-map (c .parent-rows .result .now) (paramOf (vec-items (cat .marks)))) ∙ ap length (c .parent-rows .ensures .params) ∙ ap (λ (x : Definition). length (parentRows (held cat) (x .parent))) (c .def-at .ensures .means)
+    sym (length-map (c .parent-rows .result .now) (paramOf (vec-items (cat .marks)))) ∙ ap length (c .parent-rows .ensures .params) ∙ ap (λ p. length (parentRows (held cat) p)) (c .parent .ensures)

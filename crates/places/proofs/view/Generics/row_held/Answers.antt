@@ -16,7 +16,7 @@ returns-then-place-before c =
     let before = c .parent-rows-parent .result .now in
     let own = c .own-rows-own .result .now in
     record {
-      param = nth-first f f before own (c .args .place) (f noRow) noRow (c .if-place-before .taken) ∙ place-of (held cat) (vec-items (cat .marks)) (c .args .self .now .def) (c .args .place) _ before own (ap (λ (x : Definition). x .parent) (c .def-at .ensures .means)) (c .parent-rows-parent .ensures .params) (c .own-rows-own .ensures .params);
+      param = nth-first f f before own (c .args .place) (f noRow) noRow (c .if-place-before .taken) ∙ place-of (held cat) (vec-items (cat .marks)) (c .args .self .now .def) (c .args .place) _ before own (c .parent .ensures) (c .parent-rows-parent .ensures .params) (c .own-rows-own .ensures .params);
       within = c .parent-rows-parent .ensures .within (c .args .place) (c .if-place-before .taken);
     }
 
@@ -27,7 +27,7 @@ returns-then-place-before-2 c =
     let before = c .parent-rows-parent .result .now in
     let own = c .own-rows-own .result .now in
     record {
-      param = nth-second f f before own (c .args .place) (f noRow) noRow (c .if-place-before .left) (c .if-place-before-2 .taken) ∙ place-of (held cat) (vec-items (cat .marks)) (c .args .self .now .def) (c .args .place) _ before own (ap (λ (x : Definition). x .parent) (c .def-at .ensures .means)) (c .parent-rows-parent .ensures .params) (c .own-rows-own .ensures .params);
+      param = nth-second f f before own (c .args .place) (f noRow) noRow (c .if-place-before .left) (c .if-place-before-2 .taken) ∙ place-of (held cat) (vec-items (cat .marks)) (c .args .self .now .def) (c .args .place) _ before own (c .parent .ensures) (c .parent-rows-parent .ensures .params) (c .own-rows-own .ensures .params);
       within = c .own-rows-own .ensures .within _ (c .if-place-before-2 .taken);
     }
 
@@ -38,6 +38,6 @@ returns-else-place-before-2 c =
     let before = c .parent-rows-parent .result .now in
     let own = c .own-rows-own .result .now in
     record {
-      param = nth-neither f f before own (c .args .place) (f noRow) (c .if-place-before .left) (c .if-place-before-2 .left) ∙ place-of (held cat) (vec-items (cat .marks)) (c .args .self .now .def) (c .args .place) _ before own (ap (λ (x : Definition). x .parent) (c .def-at .ensures .means)) (c .parent-rows-parent .ensures .params) (c .own-rows-own .ensures .params);
+      param = nth-neither f f before own (c .args .place) (f noRow) (c .if-place-before .left) (c .if-place-before-2 .left) ∙ place-of (held cat) (vec-items (cat .marks)) (c .args .self .now .def) (c .args .place) _ before own (c .parent .ensures) (c .parent-rows-parent .ensures .params) (c .own-rows-own .ensures .params);
       within = tt;
     }
