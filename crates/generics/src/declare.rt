@@ -82,7 +82,7 @@ impl Catalogue {
         ensures number { λ r. ⌜ r ≡ length (held (now (self .entry))) ⌝ }
         ensures held { λ _. ⌜ held (now (self .exit)) ≡ held (now (self .entry)) ++ asked (d .entry) ∷ [] ⌝ }
     {
-        let number = self.defs.len() as u32;
+        let number = self.len() as u32;
         let first = self.rows.len();
         lay_rows(&mut self.rows, &mut self.marks, d.rows);
         let body = lay_term(&mut self.marks, d.body);
