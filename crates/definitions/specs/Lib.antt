@@ -1,3 +1,4 @@
 pub mod Definitions
+pub mod Follows
 pub mod Rules
 pub mod Terms

@@ -11,6 +11,7 @@ use Rattle.generics.specs.declared.declare.DeclareRefusal.the-variants.{Parent
 use Rattle.generics.specs.declared.catalogue.Catalogue.{Catalogue}
 use Rattle.definitions.specs.Definitions.{Definition}
 use Rattle.generics.specs.Held.{held}
+use Rattle.definitions.specs.Follows.{ParentFollows, RowsFollow, DefaultsFollow, TermsFollow, Fits}
 use Rattle.definitions.specs.Rules.{parentRight, rowsRight, defaultsRight, termsRight, hasRoom}
 
 -- an answer: a definition's number, or the number of a refusal
@@ -41,6 +42,18 @@ declares ds d =
     (refuses 3))
     (refuses 2))
     (refuses 1)
+
+-- the same by relation: each refusal is given exactly if its rule is broken and none before it
+abbrev pub Refused : List Definition → Definition → DeclareRefusal → Type 0
+Refused ds d Parent = ParentFollows ds (d .kind) (d .parent) → ⊥
+Refused ds d Rows = ParentFollows ds (d .kind) (d .parent) × (RowsFollow (d .kind) (d .rows) → ⊥)
+Refused ds d Default = ParentFollows ds (d .kind) (d .parent) × RowsFollow (d .kind) (d .rows) × (DefaultsFollow (d .rows) → ⊥)
+Refused ds d Term = ParentFollows ds (d .kind) (d .parent) × RowsFollow (d .kind) (d .rows) × DefaultsFollow (d .rows) × (TermsFollow ds d → ⊥)
+Refused ds d Full = ParentFollows ds (d .kind) (d .parent) × RowsFollow (d .kind) (d .rows) × DefaultsFollow (d .rows) × TermsFollow ds d × (Fits ds d → ⊥)
+
+abbrev pub Ruled : List Definition → Definition → Result ℕ DeclareRefusal → Type 0
+Ruled ds d (Ok n) = ParentFollows ds (d .kind) (d .parent) × RowsFollow (d .kind) (d .rows) × DefaultsFollow (d .rows) × TermsFollow ds d × Fits ds d
+Ruled ds d (Err e) = Refused ds d e
 
 -- an acceptance appends the definition, a refusal alters nothing
 abbrev pub Left : Catalogue → Definition → Result ℕ DeclareRefusal → Catalogue → Type 0

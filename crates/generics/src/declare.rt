@@ -6,10 +6,11 @@ ghost use lib.ListN.{length};
 ghost use Rattle.std.specs.Results.{Cases};
 ghost use Rattle.std.specs.Of.Vec.{vec-items};
 ghost use Rattle.std.specs.Vec.{made};
-ghost use Rattle.generics.specs.Declares.{Left, answer, declares, numberOf};
+ghost use Rattle.generics.specs.Declares.{Left, Ruled, answer, declares, numberOf};
 ghost use Rattle.generics.specs.Held.{held};
 ghost use Rattle.generics.specs.Lays.{asked};
-ghost use Rattle.definitions.specs.Rules.{follows, hasRoom};
+ghost use Rattle.definitions.specs.Follows.{AllRightful};
+ghost use Rattle.definitions.specs.Rules.{Limited, follows, hasRoom};
 use crate::catalogue::Catalogue;
 use crate::lay::lay_rows;
 use crate::lay::lay_term;
@@ -61,9 +62,11 @@ impl Catalogue {
         Ok(Catalogue { defs, rows, marks })
     }
 
-    // How many definitions are declared.
+    // How many definitions are declared. No catalogue exists of which one breaks the rules, or that passes a limit.
     pub fn len(&self) -> usize
-        ensures { λ r. ⌜ r ≡ length (held (now (self .entry))) ⌝ }
+        ensures rightful { λ _. ⌜ AllRightful (held (now (self .entry))) ⌝ }
+        ensures limited { λ _. ⌜ Limited (held (now (self .entry))) ⌝ }
+        ensures count { λ r. ⌜ r ≡ length (held (now (self .entry))) ⌝ }
     {
         self.defs.len()
     }
@@ -96,9 +99,10 @@ impl Catalogue {
         number
     }
 
-    // Declares a definition and answers its number.
+    // Declares a definition and answers its number. The rules are tried in order.
     pub fn declare(&mut self, d: Declaration) -> Result<u32, DeclareRefusal>
         ensures answered { λ r. ⌜ answer r ≡ declares (held (now (self .entry))) (asked (d .entry)) ⌝ }
+        ensures ruled { λ r. ⌜ Ruled (held (now (self .entry))) (asked (d .entry)) r ⌝ }
         ensures left { λ r. ⌜ Left (now (self .entry)) (asked (d .entry)) r (now (self .exit)) ⌝ }
     {
         if !self.parent_fits(d.kind, d.parent) {

@@ -24,7 +24,7 @@ use Rattle.generics.proofs.catalogue.Catalogue.append.Needs as need
 pub cast-number : need.cast-number
 cast-number c =
     let r = roomy (c .args .self .now) (c .args .d) (c .pre .fits) in
-    omega (arith, c .len-number .ensures, defs-long (c .args .self .now))
+    omega (arith, c .len-number .ensures .count, defs-long (c .args .self .now))
 
 pub lay-rows-requires : need.lay-rows-requires
 lay-rows-requires c κs =
@@ -70,6 +70,6 @@ pub returns : need.returns
 returns c =
     let cat = c .args .self .now in
     record {
-      number = c .len-number .ensures;
+      number = c .len-number .ensures .count;
       held = grown cat (c .args .d) (c .pre .follows) (c .pre .fits) _ _ _ _ _ _ _ (c .len-first .ensures) (c .lay-rows .ensures .marks-len) (c .lay-term-body .ensures .span) (c .push-reserved .ensures .items) (c .lay-rows .ensures .rows) (c .lay-rows .ensures .marks) (c .lay-term-body .ensures .items) .1;
     }
