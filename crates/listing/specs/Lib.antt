@@ -1,0 +1,4 @@
+pub mod Nesting
+pub mod Parts
+pub mod Pieces
+pub mod Answered

@@ -1,0 +1,44 @@
+// Why a text cannot be read.
+ghost use mathlib.Core.Path.{_≡_};
+ghost use Rattle.listing.specs.declared.faults.ReadError.the-variants.{NoMemory};
+use std::alloc::AllocError;
+use std::alloc::Refused;
+
+#[derive(Clone, Copy, PartialEq, Eq, Debug)]
+pub enum Reason {
+    // A bracket is closed that is not open.
+    Unopened,
+    // A bracket or a quote is not closed.
+    Unclosed,
+    // Nothing stands between two commas.
+    Empty,
+}
+
+// The byte, counted from 0, at which a text cannot be read, and why.
+#[derive(Clone, Copy, PartialEq, Eq, Debug)]
+pub struct Fault {
+    pub at: usize,
+    pub reason: Reason,
+}
+
+#[derive(Clone, Copy, PartialEq, Eq, Debug)]
+pub enum ReadError {
+    Unreadable(Fault),
+    NoMemory,
+}
+
+pub impl From<AllocError> for ReadError as ReadErrorFromAlloc {
+    ghost converts = { λ _ r. r ≡ NoMemory };
+
+    fn from(_e: AllocError) -> ReadError {
+        ReadError::NoMemory
+    }
+}
+
+pub impl<T: Drop> From<Refused<T>> for ReadError as ReadErrorFromRefused {
+    ghost converts = { λ _ r. r ≡ NoMemory };
+
+    fn from(_e: Refused<T>) -> ReadError {
+        ReadError::NoMemory
+    }
+}
