@@ -31,6 +31,14 @@ pub record Sofar (sep : ℕ) (text : List ℕ) (spans : List Span) (from : ℕ) 
   pub faulty : fault sep scan i (drop i text) ≡ fault sep start 0 text
   pub given : map (part text) spans ++ extended (begun text from i) (pieces sep scan (drop i text)) ≡ all-of (pieces sep start text)
 
+-- the same under other names
+pub renamed : (sep : ℕ) (text : List ℕ) (spans spans′ : List Span) (from from′ : ℕ) (scan scan′ : Scan) (i : ℕ) → spans′ ≡ spans → from′ ≡ from → scan′ ≡ scan → Sofar sep text spans from scan i → Sofar sep text spans′ from′ scan′ i
+renamed sep text spans spans′ from from′ scan scan′ i p q r so = rw (p, q, r) so
+
+-- what is known at the end of the text
+abbrev pub Finished : ℕ → List ℕ → List Span → Type 0
+Finished sep text spans = (fault sep start 0 text ≡ None) × Cut sep (map (part text) spans) text × (length spans ≡ separators sep start text + 1)
+
 pub none-yet : (sep : ℕ) (text : List ℕ) → Sofar sep text [] 0 start 0
 none-yet sep text = record { shallow = omega arith; ordered = omega arith; faulty = refl; given = refl }
 
@@ -92,7 +100,10 @@ module _ (sep : ℕ) (text : List ℕ) (spans : List Span) (from : ℕ) (scan : 
         let old : map (part text) spans ++ extended (begun text from i) ([], []) ≡ all-of (pieces sep start text) = ap (λ w. map (part text) spans ++ extended (begun text from i) w) (sym rest) ∙ so .given in
         map-push (part text) spans _ ∙ rw append-nil at old
 
-    pub finished : closed scan ≡ true → (fault sep start 0 text ≡ None) × Cut sep (map (part text) (spans ++ record { from = from; len = i - from } ∷ [])) text × (length (spans ++ record { from = from; len = i - from } ∷ []) ≡ separators sep start text + 1)
+    pub finished : closed scan ≡ true → Finished sep text (spans ++ record { from = from; len = i - from } ∷ [])
     finished e =
         let none : fault sep start 0 text ≡ None = sym (so .faulty) ∙ at-drop-all (fault sep scan i) text i over ∙ rw e in
         (none, subst (λ ps. Cut sep ps text) (sym complete) (good-cut sep text none), sym (length-map _ (part text)) ∙ ap length complete ∙ good sep start 0 text none .number)
+
+pub finished-at : (sep : ℕ) (text : List ℕ) (spans spans′ : List Span) (from i n : ℕ) → i ≡ n → spans′ ≡ spans ++ record { from = from; len = n - from } ∷ [] → Finished sep text (spans ++ record { from = from; len = i - from } ∷ []) → Finished sep text spans′
+finished-at sep text spans spans′ from i n e p h = rw p (rw e at h)

@@ -33,19 +33,31 @@ pub fn cut(heap: Global, text: &[u8], separator: u8) -> Result<Vec<Span>, ReadEr
     let mut scan = Scan::start();
     for (i, b) in text.iter().enumerate() {
         if is_split(separator, scan, *b) {
-            spans.push(Span { from, len: i - from })?;
+            spans.push(Span {
+                from,
+                len: i - from,
+            })?;
             from = i + 1;
             scan = Scan::start();
         } else {
             let Some(next) = scan.after(*b) else {
-                return Err(ReadError::Unreadable(Fault { at: i, reason: Reason::Unopened }));
+                return Err(ReadError::Unreadable(Fault {
+                    at: i,
+                    reason: Reason::Unopened,
+                }));
             };
             scan = next;
         }
     }
     if !scan.closed() {
-        return Err(ReadError::Unreadable(Fault { at: text.len(), reason: Reason::Unclosed }));
+        return Err(ReadError::Unreadable(Fault {
+            at: text.len(),
+            reason: Reason::Unclosed,
+        }));
     }
-    spans.push(Span { from, len: text.len() - from })?;
+    spans.push(Span {
+        from,
+        len: text.len() - from,
+    })?;
     Ok(spans)
 }
