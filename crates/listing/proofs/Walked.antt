@@ -14,7 +14,7 @@ use Rattle.listing.specs.declared.faults.Fault.{Fault}
 use Rattle.listing.specs.declared.faults.Reason.the-variants.{Unopened, Unclosed}
 use Rattle.listing.specs.Nesting.{after, closed, start}
 use Rattle.listing.specs.Parts.{part}
-use Rattle.listing.specs.Pieces.{splits, Cut, fault, separators}
+use Rattle.listing.specs.Pieces.{splits, Cut, fault, separators, Adjacent}
 use Rattle.listing.proofs.Cuts.{Cutting, all-of, with-byte, pieces, good, good-cut}
 
 -- the bytes of the piece that is being read
@@ -24,10 +24,16 @@ begun text from i = take (i - from) (drop from text)
 abbrev pub extended : List ℕ → Cutting → List (List ℕ)
 extended xs w = (xs ++ w .0) ∷ w .1
 
+-- one more span
+adjacent-push : (n : ℕ) (ss : List Span) (from i : ℕ) → from ≤ i → Adjacent n ss from → Adjacent n (ss ++ record { from = from; len = i - from } ∷ []) (i + 1)
+adjacent-push n [] from i h e = (sym e, omega arith)
+adjacent-push n (s ∷ ss) from i h a = (a .0, adjacent-push (n + s .len + 1) ss from i h (a .1))
+
 -- the spans are the pieces so far, and what is left gives the others
 pub record Sofar (sep : ℕ) (text : List ℕ) (spans : List Span) (from : ℕ) (scan : Scan) (i : ℕ) : Type 0 where
   pub shallow : scan .depth ≤ i
   pub ordered : from ≤ i
+  pub places : Adjacent 0 spans from
   pub faulty : fault sep scan i (drop i text) ≡ fault sep start 0 text
   pub given : map (part text) spans ++ extended (begun text from i) (pieces sep scan (drop i text)) ≡ all-of (pieces sep start text)
 
@@ -36,11 +42,11 @@ pub renamed : (sep : ℕ) (text : List ℕ) (spans spans′ : List Span) (from f
 renamed sep text spans spans′ from from′ scan scan′ i p q r so = rw (p, q, r) so
 
 -- what is known at the end of the text
-abbrev pub Finished : ℕ → List ℕ → List Span → Type 0
-Finished sep text spans = (fault sep start 0 text ≡ None) × Cut sep (map (part text) spans) text × (length spans ≡ separators sep start text + 1)
+abbrev pub Finished : ℕ → List ℕ → List Span → ℕ → Type 0
+Finished sep text spans n = (fault sep start 0 text ≡ None) × Cut sep (map (part text) spans) text × (length spans ≡ separators sep start text + 1) × Adjacent 0 spans (n + 1)
 
 pub none-yet : (sep : ℕ) (text : List ℕ) → Sofar sep text [] 0 start 0
-none-yet sep text = record { shallow = omega arith; ordered = omega arith; faulty = refl; given = refl }
+none-yet sep text = record { shallow = omega arith; ordered = omega arith; places = refl; faulty = refl; given = refl }
 
 module _ (sep : ℕ) (text : List ℕ) (spans : List Span) (from : ℕ) (scan : Scan) (i : ℕ) (so : Sofar sep text spans from scan i) where
   module _ (inside : i < length text) where
@@ -60,6 +66,7 @@ module _ (sep : ℕ) (text : List ℕ) (spans : List Span) (from : ℕ) (scan : 
         record {
           shallow = omega arith;
           ordered = omega arith;
+          places = adjacent-push 0 spans from i (so .ordered) (so .places);
           faulty = sym left ∙ so .faulty;
           given = rw (empty, map-push (part text) spans _, append-assoc) (rw append-nil at old);
         }
@@ -82,6 +89,7 @@ module _ (sep : ℕ) (text : List ℕ) (spans : List Span) (from : ℕ) (scan : 
         record {
           shallow = low;
           ordered = omega arith;
+          places = so .places;
           faulty = sym left ∙ so .faulty;
           given = rw (longer, append-assoc (begun text from i)) old;
         }
@@ -100,10 +108,10 @@ module _ (sep : ℕ) (text : List ℕ) (spans : List Span) (from : ℕ) (scan : 
         let old : map (part text) spans ++ extended (begun text from i) ([], []) ≡ all-of (pieces sep start text) = ap (λ w. map (part text) spans ++ extended (begun text from i) w) (sym rest) ∙ so .given in
         map-push (part text) spans _ ∙ rw append-nil at old
 
-    pub finished : closed scan ≡ true → Finished sep text (spans ++ record { from = from; len = i - from } ∷ [])
+    pub finished : closed scan ≡ true → Finished sep text (spans ++ record { from = from; len = i - from } ∷ []) i
     finished e =
         let none : fault sep start 0 text ≡ None = sym (so .faulty) ∙ at-drop-all (fault sep scan i) text i over ∙ rw e in
-        (none, subst (λ ps. Cut sep ps text) (sym complete) (good-cut sep text none), sym (length-map _ (part text)) ∙ ap length complete ∙ good sep start 0 text none .number)
+        (none, subst (λ ps. Cut sep ps text) (sym complete) (good-cut sep text none), sym (length-map _ (part text)) ∙ ap length complete ∙ good sep start 0 text none .number, adjacent-push 0 spans from i (so .ordered) (so .places))
 
-pub finished-at : (sep : ℕ) (text : List ℕ) (spans spans′ : List Span) (from i n : ℕ) → i ≡ n → spans′ ≡ spans ++ record { from = from; len = n - from } ∷ [] → Finished sep text (spans ++ record { from = from; len = i - from } ∷ []) → Finished sep text spans′
+pub finished-at : (sep : ℕ) (text : List ℕ) (spans spans′ : List Span) (from i n : ℕ) → i ≡ n → spans′ ≡ spans ++ record { from = from; len = n - from } ∷ [] → Finished sep text (spans ++ record { from = from; len = i - from } ∷ []) i → Finished sep text spans′ n
 finished-at sep text spans spans′ from i n e p h = rw p (rw e at h)

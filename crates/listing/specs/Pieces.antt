@@ -10,6 +10,7 @@ use Rattle.std.specs.shelf.Lists.{All}
 use Rattle.std.specs.declared.option.Option.{Option}
 use Rattle.std.specs.declared.option.Option.the-variants.{Some, None}
 use Rattle.listing.specs.declared.scanning.Scan.{Scan}
+use Rattle.listing.specs.declared.spans.Span.{Span}
 use Rattle.listing.specs.declared.faults.Fault.{Fault}
 use Rattle.listing.specs.declared.faults.Reason.the-variants.{Unopened, Unclosed}
 use Rattle.listing.specs.Nesting.{after, closed, start}
@@ -44,3 +45,8 @@ fault sep s i (b ∷ bs) = cond (splits sep s b) (fault sep start (i + 1) bs) (e
 abbrev pub separators : ℕ → Scan → List ℕ → ℕ
 separators sep s [] = 0
 separators sep s (b ∷ bs) = cond (splits sep s b) (separators sep start bs + 1) (elim (after s b) [ None ↦ 0 | Some t ↦ separators sep t bs ])
+
+-- the spans follow one another from n on, one byte between each two, and the last ends one before e
+abbrev pub Adjacent : ℕ → List Span → ℕ → Type 0
+Adjacent n [] e = n ≡ e
+Adjacent n (s ∷ ss) e = (s .from ≡ n) × Adjacent (n + s .len + 1) ss e

@@ -11,6 +11,7 @@ pub returns-in-rest : need.returns-in-rest
 returns-in-rest c =
     record {
       pieces = stops _ _ _ _ _ _ (c .loop-i .inv) (c .loop-i-test .taken) (sym (c .if-is-split .ensures tt)) (sym (c .in-rest .ensures tt));
+      places = tt;
       number = tt;
     }
 
@@ -32,11 +33,11 @@ pub returns-then-not-closed : need.returns-then-not-closed
 returns-then-not-closed c =
     let e : c .loop-i .i ≡ length (c .args .text .now) = omega arith in
     let h = unclosed _ _ _ _ _ _ (c .loop-i .inv) (omega arith) (sym (c .if-not-closed .ensures tt)) in
-    record { pieces = rw e at h; number = tt }
+    record { pieces = rw e at h; places = tt; number = tt }
 
 pub returns : need.returns
 returns c =
     let e : c .loop-i .i ≡ length (c .args .text .now) = omega arith in
     let h = finished _ _ _ _ _ _ (c .loop-i .inv) (omega arith) (sym (c .if-not-closed .ensures tt)) in
     let all = finished-at _ _ _ _ _ _ _ e (c .in-Continue-push-2 .ensures tt .items) h in
-    record { pieces = (all .0, all .1); number = c .push-2 .last .self .ok .0 ∙ all .2 }
+    record { pieces = (all .0, all .1); places = all .3; number = c .push-2 .last .self .ok .0 ∙ all .2 }
