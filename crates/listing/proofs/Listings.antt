@@ -2,7 +2,7 @@
 use mathlib.Core.Path.{_≡_, refl, sym, ap, subst, _∙_}
 use mathlib.Core.Bool.{Bool, true, false, cond}
 use mathlib.Core.Logic.{_⊎_, inl, inr}
-use mathlib.Core.List.{List, [], _∷_, _++_, map}
+use mathlib.Core.List.{List, [], _∷_, _++_, append-assoc, append-nil, map}
 use Prim.Native.Nat.{ℕ, _+_, _<_, _≤_}
 use native.Mathlib.Omega.{arith}
 use lib.ListN.{length, getD, drop}
@@ -12,16 +12,19 @@ use Rattle.std.specs.declared.option.Option.the-variants.{Some, None}
 use Rattle.std.proofs.shelf.Tests.{both-ways}
 use Rattle.std.proofs.shelf.Lists.{at-drop-more, at-drop-all, map-push, same-from-push}
 use Rattle.std.specs.declared.result.Result.the-variants.{Err}
+use Rattle.path.specs.declared.args.Form.{Form}
+use Rattle.path.specs.declared.args.GenericArg.{GenericArg}
 use Rattle.listing.specs.declared.faults.Fault.{Fault}
 use Rattle.listing.specs.declared.faults.ReadError.{ReadError}
 use Rattle.listing.specs.declared.faults.ReadError.the-variants.{Unreadable, NoMemory}
 use Rattle.listing.specs.declared.spans.Span.{Span}
 use Rattle.listing.specs.Answered.{Reads}
-use Rattle.listing.specs.Arguments.{Written, first-blank, Listed}
+use Rattle.listing.specs.Arguments.{Written, args-of, bare, first-blank, Listed}
 use Rattle.listing.specs.Blanks.{blank}
 use Rattle.listing.specs.Nesting.{start}
 use Rattle.listing.specs.Parts.{part}
 use Rattle.listing.specs.Pieces.{Adjacent, Cut, fault}
+use Rattle.listing.specs.Tokens.{form}
 use Rattle.listing.proofs.Cuts.{same-cut}
 
 -- the pieces, none of them blank
@@ -128,3 +131,12 @@ module _ (text : List ℕ) where
 
     pub nowhere : length ss ≤ i → None ≡ first-blank text ss
     nowhere h = sym (at-drop-all (first-blank text) ss i h) ∙ so
+
+  -- one more argument added
+  pub one-more : (ss : List Span) (i n m k : ℕ) (xs ys whole : List GenericArg) (f : Form) → i < length ss → k ≡ n → f ≡ form (bare (part text (getD ss i (record { from = 0; len = 0 })))) → ys ≡ xs ++ record { form = f; handle = k } ∷ [] → m ≡ n + 1 → xs ++ args-of text n (drop i ss) ≡ whole → ys ++ args-of text m (drop (i + 1) ss) ≡ whole
+  one-more ss i n m k xs ys whole f h same is p q so =
+      let step = at-drop-more (args-of text n) ss i (record { from = 0; len = 0 }) h in
+      rw (p, q, is, same, append-assoc) (ap (λ l. xs ++ l) (sym step) ∙ so)
+
+  pub all-added : (ss : List Span) (i n : ℕ) (xs whole : List GenericArg) → length ss ≤ i → xs ++ args-of text n (drop i ss) ≡ whole → xs ≡ whole
+  all-added ss i n xs whole h so = sym (append-nil xs) ∙ ap (λ l. xs ++ l) (sym (at-drop-all (args-of text n) ss i h)) ∙ so

@@ -15,10 +15,12 @@ use Rattle.listing.specs.declared.faults.Reason.the-variants.{Empty}
 use Rattle.listing.specs.declared.faults.ReadError.{ReadError}
 use Rattle.listing.specs.declared.faults.ReadError.the-variants.{Unreadable, NoMemory}
 use Rattle.listing.specs.declared.spans.Span.{Span}
-use Rattle.listing.specs.Blanks.{blank}
+use Rattle.path.specs.declared.args.GenericArg.{GenericArg}
+use Rattle.listing.specs.Blanks.{blank, trimmed}
 use Rattle.listing.specs.Nesting.{start}
 use Rattle.listing.specs.Parts.{part}
 use Rattle.listing.specs.Pieces.{Adjacent, Cut, fault}
+use Rattle.listing.specs.Tokens.{form}
 
 -- one argument for each piece between commas, in order, none of them blank; a blank piece may stand behind them,
 -- as in an empty list and behind a last comma
@@ -40,3 +42,12 @@ abbrev pub Listed : {A : Type 0} → (A → List Span) → List ℕ → Result A
 Listed items text (Ok v) = Written (map (part text) (items v)) text × ((e : ℕ) × Adjacent 0 (items v) e)
 Listed items text (Err (Unreadable u)) = ((ps : List (List ℕ)) → Written ps text → ⊥) × Faulty text u
 Listed items text (Err NoMemory) = Unit {0}
+
+-- an argument without the white space around it
+abbrev pub bare : List ℕ → List ℕ
+bare p = part p (trimmed p)
+
+-- one argument for each span, in order: its form, and its number from n on
+abbrev pub args-of : List ℕ → ℕ → List Span → List GenericArg
+args-of text n [] = []
+args-of text n (s ∷ ss) = record { form = form (bare (part text s)); handle = n } ∷ args-of text (n + 1) ss

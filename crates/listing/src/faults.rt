@@ -12,6 +12,8 @@ pub enum Reason {
     Unclosed,
     // Nothing stands between two commas.
     Empty,
+    // More arguments than numbers.
+    Many,
 }
 
 // The byte, counted from 0, at which a text cannot be read, and why.
