@@ -8,6 +8,7 @@ use lib.ListN.{length, getD}
 use Rattle.std.specs.declared.option.Option.{Option}
 use Rattle.std.specs.declared.option.Option.the-variants.{Some, None}
 use Rattle.std.specs.Text.{asciiDigit, asciiLetter}
+use Rattle.std.specs.shelf.Lists.{leading}
 use Rattle.std.specs.shelf.Text.{sameBytes}
 use Rattle.path.specs.declared.args.Form.{Form}
 use Rattle.path.specs.declared.args.Form.the-variants.{Lifetime, «Type», Path, Placeholder, Constant}
@@ -22,6 +23,10 @@ use Rattle.listing.specs.Nesting.{after, closed}
 abbrev pub letter : ℕ → Bool
 letter b = asciiLetter b || eqb b 95
 
+-- a letter, _ or a digit
+abbrev pub name-byte : ℕ → Bool
+name-byte b = letter b || asciiDigit b
+
 -- behind a name: white space, a colon or a list may follow
 abbrev behind : ℕ → Option Place
 behind b = cond (white b) (Some Gap) (cond (eqb b 58) (Some Colon) (cond (eqb b 60) (Some (Inside (record { depth = 1; mode = Plain }))) None))
@@ -35,7 +40,7 @@ inside (Some t) = Some (cond (closed t) Behind (Inside t))
 abbrev pub place-after : Place → ℕ → Option Place
 place-after First b = cond (letter b) (Some Name) None
 place-after Next b = cond (letter b) (Some Name) (cond (white b) (Some Next) (cond (eqb b 60) (Some (Inside (record { depth = 1; mode = Plain }))) None))
-place-after Name b = cond (letter b || asciiDigit b) (Some Name) (behind b)
+place-after Name b = cond (name-byte b) (Some Name) (behind b)
 place-after Gap b = behind b
 place-after Colon b = cond (eqb b 58) (Some Next) None
 place-after (Inside s) b = inside (after s b)
@@ -82,3 +87,7 @@ truth text = sameBytes text (codes "true") || sameBytes text (codes "false")
 -- constant, a path a path, and the rest are types
 abbrev pub form : List ℕ → Form
 form text = cond (eqb (getD text 0 0) 39) (cond (quoted text) Constant Lifetime) (cond (sameBytes text (codes "_")) Placeholder (cond (begins-constant (getD text 0 0) || truth text) Constant (cond (path-from First text) Path «Type»)))
+
+-- how long the name is that a text begins with
+abbrev pub name-length : List ℕ → ℕ
+name-length text = cond (letter (getD text 0 0)) (leading name-byte text) 0

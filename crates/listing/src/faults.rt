@@ -14,6 +14,20 @@ pub enum Reason {
     Empty,
     // More arguments than numbers.
     Many,
+    // A name should stand there.
+    Name,
+    // What stands behind a name is no list.
+    Behind,
+    // Names are joined by two colons.
+    Colons,
+    // A row is `'name`, `Name` or `const NAME`.
+    Row,
+    // A default is a number, a name or a lifetime.
+    Default,
+    // The name is taken.
+    Twice,
+    // No heading stands before the line.
+    Heading,
 }
 
 // The byte, counted from 0, at which a text cannot be read, and why.

@@ -1,24 +1,10 @@
 // The form that an argument is written in.
 ghost use mathlib.Core.Path.{_≡_};
-ghost use lib.ListN.{getD};
-ghost use Rattle.std.specs.shelf.Text.{sameBytes};
 ghost use Rattle.listing.specs.Tokens.{begins-constant, form, quoted};
+use crate::names::first_byte;
+use crate::names::is_same;
 use crate::shapes::is_path;
 use path::args::Form;
-
-// Whether the two texts are the same.
-pub fn is_same(one: &[u8], other: &[u8]) -> bool
-    ensures { λ r. ⌜ r ≡ sameBytes (now (one .entry)) (now (other .entry)) ⌝ }
-{
-    one == other
-}
-
-// The first byte, or 0 where there is none.
-fn first_byte(text: &[u8]) -> u8
-    ensures { λ r. ⌜ r ≡ getD (now (text .entry)) 0 0 ⌝ }
-{
-    if text.is_empty() { 0 } else { text[0] }
-}
 
 // Whether what begins with an apostrophe ends with one too.
 fn is_quoted(text: &[u8]) -> bool

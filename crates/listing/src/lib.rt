@@ -9,6 +9,7 @@ pub mod cutting;
 pub mod faults;
 pub mod forms;
 pub mod lists;
+pub mod names;
 mod scanning;
 mod shapes;
 pub mod spans;
