@@ -13,3 +13,5 @@ pub mod names;
 mod scanning;
 mod shapes;
 pub mod spans;
+#[cfg(test)]
+mod tests;
