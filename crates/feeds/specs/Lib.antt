@@ -1,0 +1,2 @@
+pub mod Resolves
+pub mod Saying

@@ -1,10 +1,10 @@
 // The names that a day knows, and what a path names by them.
+ghost use mathlib.Core.Path.{_≡_};
+ghost use Rattle.feeds.specs.Resolves.{builtin, first-known, kind-by, meant-by, numbered, plain, signed, unsigned};
 use listing::names::is_same;
 use listing::spans::Span;
 use path::segments::Resolution;
 use path::segments::TypeNs;
-use std::alloc::AllocError;
-use std::alloc::Global;
 
 // A declared template, by its name and its number in the catalogue.
 #[derive(Drop)]
@@ -30,7 +30,9 @@ pub struct Resolved {
 }
 
 // The number of the template of that name.
-pub fn template_of(templates: &[Template], name: &[u8]) -> Option<u32> {
+pub fn template_of(templates: &[Template], name: &[u8]) -> Option<u32>
+    ensures { λ r. ⌜ r ≡ numbered (now (templates .entry)) (now (name .entry)) ⌝ }
+{
     for template in templates {
         if is_same(template.name.as_slice(), name) {
             return Some(template.number);
@@ -39,52 +41,90 @@ pub fn template_of(templates: &[Template], name: &[u8]) -> Option<u32> {
     None
 }
 
-fn is_integer(name: &[u8]) -> bool {
-    match name {
-        b"u8" | b"u16" | b"u32" | b"u64" | b"u128" | b"usize" => true,
-        b"i8" | b"i16" | b"i32" | b"i64" | b"i128" | b"isize" => true,
-        _ => false,
-    }
+fn is_unsigned(name: &[u8]) -> bool
+    ensures { λ r. ⌜ r ≡ unsigned (now (name .entry)) ⌝ }
+{
+    is_same(name, b"u8")
+        || is_same(name, b"u16")
+        || is_same(name, b"u32")
+        || is_same(name, b"u64")
+        || is_same(name, b"u128")
+        || is_same(name, b"usize")
 }
 
-fn is_builtin(name: &[u8]) -> bool {
-    match name {
-        b"bool" | b"char" | b"str" | b"f32" | b"f64" => true,
-        _ => is_integer(name),
-    }
+fn is_signed(name: &[u8]) -> bool
+    ensures { λ r. ⌜ r ≡ signed (now (name .entry)) ⌝ }
+{
+    is_same(name, b"i8")
+        || is_same(name, b"i16")
+        || is_same(name, b"i32")
+        || is_same(name, b"i64")
+        || is_same(name, b"i128")
+        || is_same(name, b"isize")
+}
+
+fn is_plain(name: &[u8]) -> bool
+    ensures { λ r. ⌜ r ≡ plain (now (name .entry)) ⌝ }
+{
+    is_same(name, b"bool")
+        || is_same(name, b"char")
+        || is_same(name, b"str")
+        || is_same(name, b"f32")
+        || is_same(name, b"f64")
+}
+
+// Whether the name is that of a built-in type.
+fn is_builtin(name: &[u8]) -> bool
+    ensures { λ r. ⌜ r ≡ builtin (now (name .entry)) ⌝ }
+{
+    is_unsigned(name) || is_signed(name) || is_plain(name)
 }
 
 // What the name stands for: a template, else a built-in type or `Self`.
-fn meaning(templates: &[Template], name: &[u8]) -> Meant {
-    if let Some(number) = template_of(templates, name) {
-        return Meant::Template(number);
+fn meaning(templates: &[Template], name: &[u8]) -> Meant
+    ensures { λ r. ⌜ r ≡ meant-by (now (templates .entry)) (now (name .entry)) ⌝ }
+{
+    match template_of(templates, name) {
+        Some(number) => Meant::Template(number),
+        None => {
+            if is_builtin(name) {
+                Meant::Builtin
+            } else if is_same(name, b"Self") {
+                Meant::OwnType
+            } else {
+                Meant::Unknown
+            }
+        }
     }
-    if is_builtin(name) {
-        Meant::Builtin
-    } else if is_same(name, b"Self") {
-        Meant::OwnType
-    } else {
-        Meant::Unknown
+}
+
+// The kind of path that ends at what a name stands for, if it stands for something.
+fn kind_of(meant: Meant) -> Option<TypeNs>
+    ensures { λ r. ⌜ r ≡ kind-by meant ⌝ }
+{
+    match meant {
+        Meant::Template(_) => Some(TypeNs::Adt),
+        Meant::Builtin => Some(TypeNs::BuiltinType),
+        Meant::OwnType => Some(TypeNs::SelfType),
+        Meant::Unknown => None,
     }
 }
 
 // What the path names: the first name from the left that stands for something is the resolved segment. If none
 // does, the path names a module.
-pub fn resolve(templates: &[Template], line: &[u8], names: &[Span]) -> Resolved {
+pub fn resolve(templates: &[Template], line: &[u8], names: &[Span]) -> Resolved
+    ensures { λ r. ⌜ r ≡ first-known (now (templates .entry)) (now (line .entry)) (now (names .entry)) 0 ⌝ }
+{
     for (i, name) in names.iter().enumerate() {
         let meant = meaning(templates, name.of(line));
-        let kind = match meant {
-            Meant::Template(_) => TypeNs::Adt,
-            Meant::Builtin => TypeNs::BuiltinType,
-            Meant::OwnType => TypeNs::SelfType,
-            Meant::Unknown => continue,
-        };
-        let next = i + 1;
-        let remaining = if next < names.len() { Some(next) } else { None };
-        return Resolved {
-            meant,
-            resolution: Resolution { kind, remaining },
-        };
+        if let Some(kind) = kind_of(meant) {
+            let next = i + 1;
+            let remaining = if next < names.len() { Some(next) } else { None };
+            return Resolved {
+                meant,
+                resolution: Resolution { kind, remaining },
+            };
+        }
     }
     Resolved {
         meant: Meant::Unknown,

@@ -1,4 +1,6 @@
 // Words for what is told.
+ghost use mathlib.Core.Path.{_≡_};
+ghost use Rattle.feeds.specs.Saying.{checked, declared, prohibited};
 use diagnostics::reports::GenericArgsProhibitedReason;
 use generics::declare::DeclareRefusal;
 use listing::faults::Reason;
@@ -21,7 +23,9 @@ pub fn reason_words(reason: Reason) -> &'static str {
     }
 }
 
-pub fn declare_words(refusal: DeclareRefusal) -> &'static str {
+pub fn declare_words(refusal: DeclareRefusal) -> &'static str
+    ensures { λ r. ⌜ now r ≡ declared refusal ⌝ }
+{
     match refusal {
         DeclareRefusal::Parent => "its parent is no declared trait or impl, or it may have none",
         DeclareRefusal::Rows => "it has more than 32 rows, or a lifetime stands behind another row",
@@ -32,7 +36,9 @@ pub fn declare_words(refusal: DeclareRefusal) -> &'static str {
     }
 }
 
-pub fn check_words(refusal: CheckRefusal) -> &'static str {
+pub fn check_words(refusal: CheckRefusal) -> &'static str
+    ensures { λ r. ⌜ now r ≡ checked refusal ⌝ }
+{
     match refusal {
         CheckRefusal::ManySegments => "the path has more than 16 segments",
         CheckRefusal::BadIndex => "the path has no such segment",
@@ -40,7 +46,9 @@ pub fn check_words(refusal: CheckRefusal) -> &'static str {
     }
 }
 
-pub fn prohibited_words(reason: GenericArgsProhibitedReason) -> &'static str {
+pub fn prohibited_words(reason: GenericArgsProhibitedReason) -> &'static str
+    ensures { λ r. ⌜ now r ≡ prohibited reason ⌝ }
+{
     match reason {
         GenericArgsProhibitedReason::Module => "a module",
         GenericArgsProhibitedReason::TyParam => "a type parameter",
