@@ -11,7 +11,7 @@ use Rattle.std.specs.declared.option.Option.the-variants.{Some, None}
 use Rattle.std.specs.declared.result.Result.{Result}
 use Rattle.std.specs.declared.result.Result.the-variants.{Ok, Err}
 use Rattle.listing.specs.declared.faults.Fault.{Fault}
-use Rattle.listing.specs.declared.faults.Reason.the-variants.{Empty}
+use Rattle.listing.specs.declared.faults.Reason.the-variants.{Empty, Many}
 use Rattle.listing.specs.declared.faults.ReadError.{ReadError}
 use Rattle.listing.specs.declared.faults.ReadError.the-variants.{Unreadable, NoMemory}
 use Rattle.listing.specs.declared.spans.Span.{Span}
@@ -51,3 +51,15 @@ bare p = part p (trimmed p)
 abbrev pub args-of : List ℕ → ℕ → List Span → List GenericArg
 args-of text n [] = []
 args-of text n (s ∷ ss) = record { form = form (bare (part text s)); handle = n } ∷ args-of text (n + 1) ss
+
+-- a text is not read since no arguments are written in it, or since they are too many to number
+abbrev pub Refused : {A : Type 0} → List ℕ → Result A ReadError → Type 0
+Refused text (Ok v) = Unit {0}
+Refused text (Err (Unreadable u)) = (u .reason ≡ Many) ⊎ (((ps : List (List ℕ)) → Written ps text → ⊥) × Faulty text u)
+Refused text (Err NoMemory) = Unit {0}
+
+-- too many to number is the only reason
+abbrev pub OnlyMany : {A : Type 0} → Result A ReadError → Type 0
+OnlyMany (Ok v) = Unit {0}
+OnlyMany (Err (Unreadable u)) = u .reason ≡ Many
+OnlyMany (Err NoMemory) = Unit {0}

@@ -5,7 +5,7 @@ ghost use Rattle.std.specs.Of.Vec.{vec-items, vec-len};
 ghost use Rattle.std.specs.Vec.{made};
 ghost use Rattle.std.specs.declared.result.Result.the-variants.{Ok};
 ghost use Rattle.listing.specs.Tokens.{form};
-ghost use Rattle.listing.specs.Arguments.{Listed, args-of, bare, first-blank};
+ghost use Rattle.listing.specs.Arguments.{Listed, OnlyMany, Refused, args-of, bare, first-blank};
 use crate::blanks::is_blank;
 use crate::blanks::trim;
 use crate::cutting::cut;
@@ -60,7 +60,8 @@ fn form_in(piece: &[u8]) -> Form
 
 // Adds an argument for each of `spans`. The handle of an argument is its number among `args`.
 fn push_arguments(text: &[u8], spans: &[Span], args: &mut Vec<GenericArg>) -> Result<(), ReadError>
-    ensures { λ r. ⌜ made r (λ _. vec-items (now (args .exit)) ≡ vec-items (now (args .entry)) ++ args-of (now (text .entry)) (vec-len (now (args .entry))) (now (spans .entry))) ⌝ }
+    ensures added { λ r. ⌜ made r (λ _. vec-items (now (args .exit)) ≡ vec-items (now (args .entry)) ++ args-of (now (text .entry)) (vec-len (now (args .entry))) (now (spans .entry))) ⌝ }
+    ensures refused { λ r. ⌜ OnlyMany r ⌝ }
 {
     for span in spans {
         let form = form_in(span.of(text));
@@ -88,6 +89,7 @@ pub fn read_list(
 ) -> Result<Vec<Span>, ReadError>
     ensures written { λ r. ⌜ made r (λ v. Listed vec-items (now (text .entry)) (Ok v)) ⌝ }
     ensures added { λ r. ⌜ made r (λ v. vec-items (now (args .exit)) ≡ vec-items (now (args .entry)) ++ args-of (now (text .entry)) (vec-len (now (args .entry))) (vec-items v)) ⌝ }
+    ensures refused { λ r. ⌜ Refused (now (text .entry)) r ⌝ }
 {
     let spans = arguments(heap, text)?;
     push_arguments(text, spans.as_slice(), args)?;

@@ -10,4 +10,4 @@ loop-span-again c =
     (c .in-Continue-push .ensures tt .items) (c .in-Continue-push .ensures tt .len) (c .loop-span .inv)
 
 pub returns : need.returns
-returns c = all-added _ _ _ _ _ _ (c .loop-span-test .left) (c .loop-span .inv)
+returns c = record { added = all-added _ _ _ _ _ _ (c .loop-span-test .left) (c .loop-span .inv); refused = tt }
