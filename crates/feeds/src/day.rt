@@ -48,6 +48,7 @@ pub struct Day {
     bases: Vec<Vec<u8>>,
 }
 
+// The place of the base type of that name.
 fn base_number(bases: &[Vec<u8>], name: &[u8]) -> Option<usize> {
     for (i, base) in bases.iter().enumerate() {
         if is_same(base.as_slice(), name) {
@@ -57,6 +58,8 @@ fn base_number(bases: &[Vec<u8>], name: &[u8]) -> Option<usize> {
     None
 }
 
+// `n`, or the greatest number there is. A row or a name of so high a number is refused by the catalogue or has
+// found no memory before.
 fn as_number(n: usize) -> u32 {
     if n > 0xffff_ffff {
         0xffff_ffff
@@ -92,6 +95,7 @@ fn keep_mark<'a>(heap: Global, mark: Mark) -> Result<&'a [Mark], AllocError> {
     Ok(&kept[0..1])
 }
 
+// Declares a type with these rows.
 fn declare_rows<'a>(
     catalogue: &mut Catalogue,
     rows: &'a [GenericParam<'a>],

@@ -14,7 +14,6 @@ use crate::places::unreadable;
 use crate::places::within;
 use listing::cutting::cut;
 use listing::faults::ReadError;
-use listing::faults::ReadErrorFromAlloc;
 use listing::faults::ReadErrorFromRefused;
 use listing::faults::Reason;
 use listing::lists::read_list;
