@@ -1,0 +1,115 @@
+// The shape of a path, byte by byte.
+ghost use mathlib.Core.Path.{_≡_};
+ghost use Prim.Native.Nat.{_+_, _^_, _<_};
+ghost use Rattle.listing.specs.Tokens.{deep, ends, inside, letter, path-from, place-after};
+ghost use Rattle.listing.specs.declared.shapes.Place.the-variants.{First, Gap};
+use crate::blanks::is_white;
+use crate::scanning::Mode;
+use crate::scanning::Scan;
+
+// A place in a path.
+#[derive(Clone, Copy)]
+pub enum Place {
+    // Where the path begins.
+    First,
+    // Behind `::`.
+    Next,
+    // In a name.
+    Name,
+    // In white space behind a name.
+    Gap,
+    // Behind the first of two colons.
+    Colon,
+    // In a list.
+    Inside(Scan),
+    // Behind a list.
+    Behind,
+}
+
+// Whether a name may begin with `b`: a letter or `_`.
+pub fn is_letter(b: u8) -> bool
+    ensures { λ r. ⌜ r ≡ letter b ⌝ }
+{
+    b.is_ascii_alphabetic() || b == b'_'
+}
+
+// The place behind a name and `b`.
+fn behind_name(b: u8) -> Option<Place>
+    ensures { λ r. ⌜ r ≡ place-after Gap b ⌝ }
+{
+    if is_white(b) {
+        Some(Place::Gap)
+    } else {
+        match b as char {
+            ':' => Some(Place::Colon),
+            '<' => Some(Place::Inside(Scan {
+                depth: 1,
+                mode: Mode::Plain,
+            })),
+            _ => None,
+        }
+    }
+}
+
+// The place in a list behind one more byte of it.
+fn in_list(scan: Option<Scan>) -> Option<Place>
+    ensures { λ r. ⌜ r ≡ inside scan ⌝ }
+{
+    let scan = scan?;
+    Some(if scan.closed() {
+        Place::Behind
+    } else {
+        Place::Inside(scan)
+    })
+}
+
+impl Place {
+    // The place behind `b`, if a path can have it here.
+    fn after(self, b: u8) -> Option<Place>
+        requires { ⌜ deep self + 1 < 2 ^ 64 ⌝ }
+        ensures { λ r. ⌜ r ≡ place-after self b ⌝ }
+    {
+        match self {
+            Place::First | Place::Next if is_letter(b) => Some(Place::Name),
+            Place::First => None,
+            Place::Next if is_white(b) => Some(Place::Next),
+            Place::Next if b == b'<' => Some(Place::Inside(Scan {
+                depth: 1,
+                mode: Mode::Plain,
+            })),
+            Place::Next => None,
+            Place::Name if is_letter(b) || b.is_ascii_digit() => Some(Place::Name),
+            Place::Name | Place::Gap => behind_name(b),
+            Place::Colon if b == b':' => Some(Place::Next),
+            Place::Colon => None,
+            Place::Inside(scan) => in_list(scan.after(b)),
+            Place::Behind if is_white(b) => Some(Place::Behind),
+            Place::Behind if b == b':' => Some(Place::Colon),
+            Place::Behind => None,
+        }
+    }
+
+    // Whether a path may end here.
+    fn ends(self) -> bool
+        ensures { λ r. ⌜ r ≡ ends self ⌝ }
+    {
+        match self {
+            Place::Name | Place::Gap | Place::Behind => true,
+            Place::First | Place::Next | Place::Colon | Place::Inside(_) => false,
+        }
+    }
+}
+
+// Whether `text` is a path: names joined by `::`, each with a list behind it or without.
+pub fn is_path(text: &[u8]) -> bool
+    ensures { λ r. ⌜ r ≡ path-from First (now (text .entry)) ⌝ }
+{
+    let mut place = Place::First;
+    for b in text {
+        let Some(next) = place.after(*b) else {
+            return false;
+        };
+        place = next;
+    }
+    place.ends()
+}
