@@ -15,14 +15,14 @@ use crate::told::tell_declared;
 use crate::told::tell_refused;
 use crate::told::tell_unchecked;
 use crate::told::tell_unread;
-use diagnostics::own::OwnReportList;
-use diagnostics::own::OwnReports;
-use generics::catalogue::Catalogue;
-use generics::declare::DeclareRefusal;
 use definitions::kinds::Declaration;
 use definitions::kinds::GenericDefKind;
 use definitions::kinds::GenericParam;
 use definitions::kinds::Mark;
+use diagnostics::own::OwnReportList;
+use diagnostics::own::OwnReports;
+use generics::catalogue::Catalogue;
+use generics::declare::DeclareRefusal;
 use listing::faults::Reason;
 use listing::names::is_same;
 use listing::spans::Span;
@@ -100,7 +100,7 @@ fn adt<'a, 'b>(rows: &'a [GenericParam<'b>]) -> Declaration<'a, 'b, 'static> {
 }
 
 impl Day {
-    pub fn new(heap: Global) -> Result<Day, AllocError> {
+    pub(crate) fn new(heap: Global) -> Result<Day, AllocError> {
         Ok(Day {
             heap,
             section: Section::Before,
@@ -216,7 +216,12 @@ impl Day {
     }
 
     // Does what the line says, and tells what was done.
-    pub fn take_line(&mut self, rt: &LibcRuntime, number: usize, line: &[u8]) -> io::Result<()> {
+    pub(crate) fn take_line(
+        &mut self,
+        rt: &LibcRuntime,
+        number: usize,
+        line: &[u8],
+    ) -> io::Result<()> {
         let place = trim_at(
             line,
             Span {

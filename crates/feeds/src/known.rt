@@ -30,7 +30,7 @@ pub struct Resolved {
 }
 
 // The number of the template of that name.
-pub fn template_of(templates: &[Template], name: &[u8]) -> Option<u32>
+pub(crate) fn template_of(templates: &[Template], name: &[u8]) -> Option<u32>
     ensures { λ r. ⌜ r ≡ numbered (now (templates .entry)) (now (name .entry)) ⌝ }
 {
     for template in templates {
@@ -112,7 +112,7 @@ fn kind_of(meant: Meant) -> Option<TypeNs>
 
 // What the path names: the first name from the left that stands for something is the resolved segment. If none
 // does, the path names a module.
-pub fn resolve(templates: &[Template], line: &[u8], names: &[Span]) -> Resolved
+pub(crate) fn resolve(templates: &[Template], line: &[u8], names: &[Span]) -> Resolved
     ensures { λ r. ⌜ r ≡ first-known (now (templates .entry)) (now (line .entry)) (now (names .entry)) 0 ⌝ }
 {
     for (i, name) in names.iter().enumerate() {

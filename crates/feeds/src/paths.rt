@@ -132,7 +132,7 @@ impl PathText {
 
 // Reads the path at `place`. It is cut at each colon, so that every other piece stands between two colons and
 // has to be empty.
-pub fn read_path(heap: Global, line: &[u8], place: Span) -> Result<PathText, ReadError>
+pub(crate) fn read_path(heap: Global, line: &[u8], place: Span) -> Result<PathText, ReadError>
     ensures { λ r. ⌜ made r Paired ⌝ }
 {
     let pieces = match cut(heap, place.of(line), b':') {

@@ -14,12 +14,12 @@ pub struct Named {
     pub list: Option<Span>,
 }
 
-pub fn unreadable(at: usize, reason: Reason) -> ReadError {
+pub(crate) fn unreadable(at: usize, reason: Reason) -> ReadError {
     ReadError::Unreadable(Fault { at, reason })
 }
 
 // A fault in the text that begins at `by`, by its place in the line.
-pub fn moved(e: ReadError, by: usize) -> ReadError {
+pub(crate) fn moved(e: ReadError, by: usize) -> ReadError {
     match e {
         ReadError::Unreadable(Fault { at, reason }) => unreadable(at.saturating_add(by), reason),
         ReadError::NoMemory => ReadError::NoMemory,
@@ -27,7 +27,7 @@ pub fn moved(e: ReadError, by: usize) -> ReadError {
 }
 
 // The place in the line of a part of the text at `outer`.
-pub fn within(outer: Span, inner: Span) -> Span {
+pub(crate) fn within(outer: Span, inner: Span) -> Span {
     Span {
         from: outer.from.saturating_add(inner.from),
         len: inner.len,
@@ -35,7 +35,7 @@ pub fn within(outer: Span, inner: Span) -> Span {
 }
 
 // What is left of the text at `place` behind its first `skip` bytes.
-pub fn behind(place: Span, skip: usize) -> Span {
+pub(crate) fn behind(place: Span, skip: usize) -> Span {
     Span {
         from: place.from.saturating_add(skip),
         len: place.len.saturating_sub(skip),
@@ -43,12 +43,12 @@ pub fn behind(place: Span, skip: usize) -> Span {
 }
 
 // The place without the white space around its text.
-pub fn trim_at(line: &[u8], place: Span) -> Span {
+pub(crate) fn trim_at(line: &[u8], place: Span) -> Span {
     within(place, trim(place.of(line)))
 }
 
 // The inside of the list at `place`.
-pub fn inside_list(line: &[u8], place: Span) -> Result<Span, ReadError> {
+pub(crate) fn inside_list(line: &[u8], place: Span) -> Result<Span, ReadError> {
     let text = place.of(line);
     let len = text.len();
     if len < 2 || text[0] != b'<' || text[len - 1] != b'>' {
@@ -61,7 +61,7 @@ pub fn inside_list(line: &[u8], place: Span) -> Result<Span, ReadError> {
 }
 
 // The name at `place`, and the list behind it.
-pub fn read_named(line: &[u8], place: Span) -> Result<Named, ReadError> {
+pub(crate) fn read_named(line: &[u8], place: Span) -> Result<Named, ReadError> {
     let len = name_len(place.of(line));
     if len == 0 {
         return Err(unreadable(place.from, Reason::Name));

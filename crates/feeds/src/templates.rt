@@ -153,7 +153,7 @@ fn read_row(line: &[u8], place: Span) -> Result<RowText, ReadError> {
 }
 
 // The place of the row of that name.
-pub fn row_of(line: &[u8], rows: &[RowText], name: &[u8]) -> Option<usize> {
+pub(crate) fn row_of(line: &[u8], rows: &[RowText], name: &[u8]) -> Option<usize> {
     for (i, row) in rows.iter().enumerate() {
         if is_same(row.name.of(line), name) {
             return Some(i);
@@ -188,7 +188,7 @@ fn read_rows(heap: Global, line: &[u8], list: Span) -> Result<Vec<RowText>, Read
 }
 
 // Reads the template at `place`, whose name is not yet taken.
-pub fn read_template(
+pub(crate) fn read_template(
     heap: Global,
     line: &[u8],
     place: Span,

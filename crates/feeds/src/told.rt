@@ -27,7 +27,7 @@ fn shown(text: &[u8]) -> &str {
     }
 }
 
-pub fn tell_unread(rt: &LibcRuntime, number: usize, e: ReadError) -> io::Result<()> {
+pub(crate) fn tell_unread(rt: &LibcRuntime, number: usize, e: ReadError) -> io::Result<()> {
     match e {
         ReadError::Unreadable(Fault { at, reason }) => {
             let column = at.saturating_add(1);
@@ -38,7 +38,7 @@ pub fn tell_unread(rt: &LibcRuntime, number: usize, e: ReadError) -> io::Result<
     }
 }
 
-pub fn tell_declared(
+pub(crate) fn tell_declared(
     rt: &LibcRuntime,
     number: usize,
     name: &[u8],
@@ -52,7 +52,7 @@ pub fn tell_declared(
     )
 }
 
-pub fn tell_refused(
+pub(crate) fn tell_refused(
     rt: &LibcRuntime,
     number: usize,
     name: &[u8],
@@ -64,7 +64,11 @@ pub fn tell_refused(
     println!(rt, "{number}: `{name}` is refused with {code}: {words}")
 }
 
-pub fn tell_unchecked(rt: &LibcRuntime, number: usize, refusal: CheckRefusal) -> io::Result<()> {
+pub(crate) fn tell_unchecked(
+    rt: &LibcRuntime,
+    number: usize,
+    refusal: CheckRefusal,
+) -> io::Result<()> {
     let code = refusal.number();
     let words = check_words(refusal);
     println!(rt, "{number}: the path is refused with {code}: {words}")
@@ -172,7 +176,7 @@ impl<'a> Told<'a> {
         Ok(())
     }
 
-    pub fn all(
+    pub(crate) fn all(
         &self,
         rt: &LibcRuntime,
         meant: Meant,

@@ -7,7 +7,7 @@ use listing::faults::Reason;
 use path::args::Form;
 use path::checked::CheckRefusal;
 
-pub fn reason_words(reason: Reason) -> &'static str {
+pub(crate) fn reason_words(reason: Reason) -> &'static str {
     match reason {
         Reason::Unopened => "a bracket is closed that is not open",
         Reason::Unclosed => "a bracket or a quote is not closed",
@@ -23,7 +23,7 @@ pub fn reason_words(reason: Reason) -> &'static str {
     }
 }
 
-pub fn declare_words(refusal: DeclareRefusal) -> &'static str
+pub(crate) fn declare_words(refusal: DeclareRefusal) -> &'static str
     ensures { λ r. ⌜ now r ≡ declared refusal ⌝ }
 {
     match refusal {
@@ -36,7 +36,7 @@ pub fn declare_words(refusal: DeclareRefusal) -> &'static str
     }
 }
 
-pub fn check_words(refusal: CheckRefusal) -> &'static str
+pub(crate) fn check_words(refusal: CheckRefusal) -> &'static str
     ensures { λ r. ⌜ now r ≡ checked refusal ⌝ }
 {
     match refusal {
@@ -46,7 +46,7 @@ pub fn check_words(refusal: CheckRefusal) -> &'static str
     }
 }
 
-pub fn prohibited_words(reason: GenericArgsProhibitedReason) -> &'static str
+pub(crate) fn prohibited_words(reason: GenericArgsProhibitedReason) -> &'static str
     ensures { λ r. ⌜ now r ≡ prohibited reason ⌝ }
 {
     match reason {
@@ -57,7 +57,7 @@ pub fn prohibited_words(reason: GenericArgsProhibitedReason) -> &'static str
     }
 }
 
-pub fn form_words(form: Form) -> &'static str {
+pub(crate) fn form_words(form: Form) -> &'static str {
     match form {
         Form::Lifetime => "a lifetime",
         Form::Type => "a type",
