@@ -20,6 +20,16 @@ fn rows_of_one_definition(rt: LibcRuntime) -> Result<(), Fail> {
     check_eq(cat.len(), 1)
 }
 
+// Too many rows are refused before a misplaced default is.
+#[test]
+fn rows_before_defaults(rt: LibcRuntime) -> Result<(), Fail> {
+    let mut cat = Catalogue::new(rt.alloc())?;
+    let mut rows = [row(RowKind::Type); 33];
+    rows[0] = row_or(RowKind::Type, BASE);
+    check_eq(adt(&mut cat, &rows), Err(2))?;
+    check_eq(adt(&mut cat, &rows[0..2]), Err(3))
+}
+
 // 32 marks are the head of a type with 31 rows and its slots; a type with 32 rows would make 33.
 #[test]
 fn marks_of_one_term(rt: LibcRuntime) -> Result<(), Fail> {

@@ -8,14 +8,14 @@ use generics::catalogue::Catalogue;
 use std::alloc::AllocError;
 use std::alloc::Global;
 
-pub const BASE: &[Mark] = &[Mark::Base(7)];
+pub(crate) const BASE: &[Mark] = &[Mark::Base(7)];
 
-pub const VALUE: &[Mark] = &[Mark::Value(30)];
+pub(crate) const VALUE: &[Mark] = &[Mark::Value(30)];
 
-pub const REGION: &[Mark] = &[Mark::Region(0)];
+pub(crate) const REGION: &[Mark] = &[Mark::Region(0)];
 
 // A row without a default.
-pub fn row(kind: RowKind) -> GenericParam<'static> {
+pub(crate) fn row(kind: RowKind) -> GenericParam<'static> {
     GenericParam {
         kind,
         default: None,
@@ -23,7 +23,7 @@ pub fn row(kind: RowKind) -> GenericParam<'static> {
 }
 
 // A row with a default.
-pub fn row_or(kind: RowKind, marks: &[Mark]) -> GenericParam<'_> {
+pub(crate) fn row_or(kind: RowKind, marks: &[Mark]) -> GenericParam<'_> {
     GenericParam {
         kind,
         default: Some(marks),
@@ -32,7 +32,7 @@ pub fn row_or(kind: RowKind, marks: &[Mark]) -> GenericParam<'_> {
 
 // The row that a letter stands for: S L T C I, and the small letter for one with a
 // default of its kind; x and y are a const and a type row with a default of the other's kind.
-pub fn row_of(letter: u8) -> GenericParam<'static> {
+pub(crate) fn row_of(letter: u8) -> GenericParam<'static> {
     match letter {
         b'S' => row(RowKind::TraitSelf),
         b's' => row_or(RowKind::TraitSelf, BASE),
@@ -49,7 +49,7 @@ pub fn row_of(letter: u8) -> GenericParam<'static> {
     }
 }
 
-pub fn rows_of(heap: Global, letters: &[u8]) -> Result<Vec<GenericParam<'static>>, AllocError> {
+pub(crate) fn rows_of(heap: Global, letters: &[u8]) -> Result<Vec<GenericParam<'static>>, AllocError> {
     let mut rows = Vec::new(heap);
     for letter in letters {
         rows.push(row_of(*letter))?;
@@ -58,7 +58,7 @@ pub fn rows_of(heap: Global, letters: &[u8]) -> Result<Vec<GenericParam<'static>
 }
 
 // What declaring answers: the number of the definition, or of the refusal.
-pub fn answered(cat: &mut Catalogue, d: Declaration) -> Result<u32, u32> {
+pub(crate) fn answered(cat: &mut Catalogue, d: Declaration) -> Result<u32, u32> {
     match cat.declare(d) {
         Ok(number) => Ok(number),
         Err(refusal) => Err(refusal.number()),
@@ -80,7 +80,7 @@ fn plain<'a, 'b>(
 }
 
 // The same without a body.
-pub fn tried(
+pub(crate) fn tried(
     cat: &mut Catalogue,
     kind: GenericDefKind,
     parent: Option<u32>,
@@ -90,7 +90,7 @@ pub fn tried(
 }
 
 // The same with a body.
-pub fn bodied(
+pub(crate) fn bodied(
     cat: &mut Catalogue,
     kind: GenericDefKind,
     parent: Option<u32>,
@@ -107,10 +107,10 @@ pub fn bodied(
 }
 
 // The same for a type, and for an alias.
-pub fn adt(cat: &mut Catalogue, rows: &[GenericParam]) -> Result<u32, u32> {
+pub(crate) fn adt(cat: &mut Catalogue, rows: &[GenericParam]) -> Result<u32, u32> {
     tried(cat, GenericDefKind::Adt, None, rows)
 }
 
-pub fn alias(cat: &mut Catalogue, rows: &[GenericParam], body: &[Mark]) -> Result<u32, u32> {
+pub(crate) fn alias(cat: &mut Catalogue, rows: &[GenericParam], body: &[Mark]) -> Result<u32, u32> {
     bodied(cat, GenericDefKind::TypeAlias, None, rows, body)
 }

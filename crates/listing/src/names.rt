@@ -20,19 +20,19 @@ pub fn first_byte(text: &[u8]) -> u8
     if text.is_empty() { 0 } else { text[0] }
 }
 
-// Whether `b` may stand in a name: a letter, a digit or `_`.
-fn is_name_byte(b: u8) -> bool
-    ensures { λ r. ⌜ r ≡ name-byte b ⌝ }
+// Whether `byte` may stand in a name: a letter, a digit or `_`.
+fn is_name_byte(byte: u8) -> bool
+    ensures { λ r. ⌜ r ≡ name-byte byte ⌝ }
 {
-    is_letter(b) || b.is_ascii_digit()
+    is_letter(byte) || byte.is_ascii_digit()
 }
 
 // How many bytes at the front of `text` may stand in a name.
 fn word_len(text: &[u8]) -> usize
     ensures { λ r. ⌜ r ≡ leading name-byte (now (text .entry)) ⌝ }
 {
-    for (i, b) in text.iter().enumerate() {
-        if !is_name_byte(*b) {
+    for (i, byte) in text.iter().enumerate() {
+        if !is_name_byte(*byte) {
             return i;
         }
     }

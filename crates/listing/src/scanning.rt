@@ -38,10 +38,10 @@ pub struct Scan {
 }
 
 // The mode behind a byte that stands outside quotes.
-fn fresh_mode(b: u8) -> Mode
-    ensures { λ r. ⌜ r ≡ next-mode Mode.Plain b ⌝ }
+fn fresh_mode(byte: u8) -> Mode
+    ensures { λ r. ⌜ r ≡ next-mode Mode.Plain byte ⌝ }
 {
-    match b as char {
+    match byte as char {
         '"' => Mode::Text,
         '\'' => Mode::Tick,
         '-' => Mode::Dash,
@@ -49,20 +49,20 @@ fn fresh_mode(b: u8) -> Mode
     }
 }
 
-// The mode behind `b`.
-pub fn mode_after(mode: Mode, b: u8) -> Mode
-    ensures { λ r. ⌜ r ≡ next-mode mode b ⌝ }
+// The mode behind `byte`.
+pub fn mode_after(mode: Mode, byte: u8) -> Mode
+    ensures { λ r. ⌜ r ≡ next-mode mode byte ⌝ }
 {
     match mode {
-        Mode::Plain | Mode::Dash => fresh_mode(b),
-        Mode::Text => match b as char {
+        Mode::Plain | Mode::Dash => fresh_mode(byte),
+        Mode::Text => match byte as char {
             '"' => Mode::Plain,
             '\\' => Mode::TextSlash,
             _ => Mode::Text,
         },
         Mode::TextSlash => Mode::Text,
         Mode::Tick => {
-            if b == b'\\' {
+            if byte == b'\\' {
                 Mode::TickSlash
             } else {
                 Mode::Ticked
@@ -70,29 +70,29 @@ pub fn mode_after(mode: Mode, b: u8) -> Mode
         }
         Mode::TickSlash => Mode::Ticked,
         Mode::Ticked => {
-            if b == b'\'' {
+            if byte == b'\'' {
                 Mode::Plain
             } else {
-                fresh_mode(b)
+                fresh_mode(byte)
             }
         }
     }
 }
 
-// What `b` does to the nesting.
-pub fn role_of(mode: Mode, b: u8) -> Role
-    ensures { λ r. ⌜ r ≡ role mode b ⌝ }
+// What `byte` does to the nesting.
+pub fn role_of(mode: Mode, byte: u8) -> Role
+    ensures { λ r. ⌜ r ≡ role mode byte ⌝ }
 {
     match mode {
         Mode::Text | Mode::TextSlash | Mode::Tick | Mode::TickSlash => return Role::Inner,
         Mode::Dash => {
-            if b == b'>' {
+            if byte == b'>' {
                 return Role::Inner;
             }
         }
         Mode::Plain | Mode::Ticked => {}
     }
-    match b as char {
+    match byte as char {
         '<' | '(' | '[' | '{' => Role::Opens,
         '>' | ')' | ']' | '}' => Role::Closes,
         _ => Role::Inner,
@@ -110,13 +110,13 @@ impl Scan {
         }
     }
 
-    // Where the scan stands behind `b`, unless `b` closes what is not open.
-    pub fn after(self, b: u8) -> Option<Scan>
+    // Where the scan stands behind `byte`, unless `byte` closes what is not open.
+    pub fn after(self, byte: u8) -> Option<Scan>
         requires { ⌜ self .depth + 1 < 2 ^ 64 ⌝ }
-        ensures { λ r. ⌜ r ≡ after self b ⌝ }
+        ensures { λ r. ⌜ r ≡ after self byte ⌝ }
     {
-        let mode = mode_after(self.mode, b);
-        match role_of(self.mode, b) {
+        let mode = mode_after(self.mode, byte);
+        match role_of(self.mode, byte) {
             Role::Opens => Some(Scan {
                 depth: self.depth + 1,
                 mode,

@@ -26,21 +26,21 @@ pub enum Place {
     Behind,
 }
 
-// Whether a name may begin with `b`: a letter or `_`.
-pub fn is_letter(b: u8) -> bool
-    ensures { λ r. ⌜ r ≡ letter b ⌝ }
+// Whether a name may begin with `byte`: a letter or `_`.
+pub fn is_letter(byte: u8) -> bool
+    ensures { λ r. ⌜ r ≡ letter byte ⌝ }
 {
-    b.is_ascii_alphabetic() || b == b'_'
+    byte.is_ascii_alphabetic() || byte == b'_'
 }
 
-// The place behind a name and `b`.
-fn behind_name(b: u8) -> Option<Place>
-    ensures { λ r. ⌜ r ≡ place-after Gap b ⌝ }
+// The place behind a name and `byte`.
+fn behind_name(byte: u8) -> Option<Place>
+    ensures { λ r. ⌜ r ≡ place-after Gap byte ⌝ }
 {
-    if is_white(b) {
+    if is_white(byte) {
         Some(Place::Gap)
     } else {
-        match b as char {
+        match byte as char {
             ':' => Some(Place::Colon),
             '<' => Some(Place::Inside(Scan {
                 depth: 1,
@@ -64,27 +64,27 @@ fn in_list(scan: Option<Scan>) -> Option<Place>
 }
 
 impl Place {
-    // The place behind `b`, if a path can have it here.
-    fn after(self, b: u8) -> Option<Place>
+    // The place behind `byte`, if a path can have it here.
+    fn after(self, byte: u8) -> Option<Place>
         requires { ⌜ deep self + 1 < 2 ^ 64 ⌝ }
-        ensures { λ r. ⌜ r ≡ place-after self b ⌝ }
+        ensures { λ r. ⌜ r ≡ place-after self byte ⌝ }
     {
         match self {
-            Place::First | Place::Next if is_letter(b) => Some(Place::Name),
+            Place::First | Place::Next if is_letter(byte) => Some(Place::Name),
             Place::First => None,
-            Place::Next if is_white(b) => Some(Place::Next),
-            Place::Next if b == b'<' => Some(Place::Inside(Scan {
+            Place::Next if is_white(byte) => Some(Place::Next),
+            Place::Next if byte == b'<' => Some(Place::Inside(Scan {
                 depth: 1,
                 mode: Mode::Plain,
             })),
             Place::Next => None,
-            Place::Name if is_letter(b) || b.is_ascii_digit() => Some(Place::Name),
-            Place::Name | Place::Gap => behind_name(b),
-            Place::Colon if b == b':' => Some(Place::Next),
+            Place::Name if is_letter(byte) || byte.is_ascii_digit() => Some(Place::Name),
+            Place::Name | Place::Gap => behind_name(byte),
+            Place::Colon if byte == b':' => Some(Place::Next),
             Place::Colon => None,
-            Place::Inside(scan) => in_list(scan.after(b)),
-            Place::Behind if is_white(b) => Some(Place::Behind),
-            Place::Behind if b == b':' => Some(Place::Colon),
+            Place::Inside(scan) => in_list(scan.after(byte)),
+            Place::Behind if is_white(byte) => Some(Place::Behind),
+            Place::Behind if byte == b':' => Some(Place::Colon),
             Place::Behind => None,
         }
     }
@@ -105,8 +105,8 @@ pub fn is_path(text: &[u8]) -> bool
     ensures { λ r. ⌜ r ≡ path-from First (now (text .entry)) ⌝ }
 {
     let mut place = Place::First;
-    for b in text {
-        let Some(next) = place.after(*b) else {
+    for byte in text {
+        let Some(next) = place.after(*byte) else {
             return false;
         };
         place = next;
