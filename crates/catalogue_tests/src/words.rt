@@ -49,7 +49,10 @@ pub(crate) fn row_of(letter: u8) -> GenericParam<'static> {
     }
 }
 
-pub(crate) fn rows_of(heap: Global, letters: &[u8]) -> Result<Vec<GenericParam<'static>>, AllocError> {
+pub(crate) fn rows_of(
+    heap: Global,
+    letters: &[u8],
+) -> Result<Vec<GenericParam<'static>>, AllocError> {
     let mut rows = Vec::new(heap);
     for letter in letters {
         rows.push(row_of(*letter))?;

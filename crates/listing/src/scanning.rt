@@ -50,7 +50,7 @@ fn fresh_mode(byte: u8) -> Mode
 }
 
 // The mode behind `byte`.
-pub fn mode_after(mode: Mode, byte: u8) -> Mode
+pub(crate) fn mode_after(mode: Mode, byte: u8) -> Mode
     ensures { λ r. ⌜ r ≡ next-mode mode byte ⌝ }
 {
     match mode {
@@ -80,7 +80,7 @@ pub fn mode_after(mode: Mode, byte: u8) -> Mode
 }
 
 // What `byte` does to the nesting.
-pub fn role_of(mode: Mode, byte: u8) -> Role
+pub(crate) fn role_of(mode: Mode, byte: u8) -> Role
     ensures { λ r. ⌜ r ≡ role mode byte ⌝ }
 {
     match mode {
@@ -101,7 +101,7 @@ pub fn role_of(mode: Mode, byte: u8) -> Role
 
 impl Scan {
     // Where a text begins.
-    pub fn start() -> Scan
+    pub(crate) fn start() -> Scan
         ensures { λ r. ⌜ r ≡ start ⌝ }
     {
         Scan {
@@ -111,7 +111,7 @@ impl Scan {
     }
 
     // Where the scan stands behind `byte`, unless `byte` closes what is not open.
-    pub fn after(self, byte: u8) -> Option<Scan>
+    pub(crate) fn after(self, byte: u8) -> Option<Scan>
         requires { ⌜ self .depth + 1 < 2 ^ 64 ⌝ }
         ensures { λ r. ⌜ r ≡ after self byte ⌝ }
     {
@@ -139,7 +139,7 @@ impl Scan {
     }
 
     // Whether no bracket is open, and no quote.
-    pub fn closed(self) -> bool
+    pub(crate) fn closed(self) -> bool
         ensures { λ r. ⌜ r ≡ closed self ⌝ }
     {
         match self.mode {

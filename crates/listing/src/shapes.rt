@@ -27,7 +27,7 @@ pub enum Place {
 }
 
 // Whether a name may begin with `byte`: a letter or `_`.
-pub fn is_letter(byte: u8) -> bool
+pub(crate) fn is_letter(byte: u8) -> bool
     ensures { λ r. ⌜ r ≡ letter byte ⌝ }
 {
     byte.is_ascii_alphabetic() || byte == b'_'
@@ -101,7 +101,7 @@ impl Place {
 }
 
 // Whether `text` is a path: names joined by `::`, each with a list behind it or without.
-pub fn is_path(text: &[u8]) -> bool
+pub(crate) fn is_path(text: &[u8]) -> bool
     ensures { λ r. ⌜ r ≡ path-from First (now (text .entry)) ⌝ }
 {
     let mut place = Place::First;
