@@ -258,7 +258,7 @@ fn each_refusal(rt: LibcRuntime) -> Result<(), Fail> {
 }
 
 // A body of an alias over the parameters `L T C`, and what declaring it answers.
-const BODIES: [(&[Mark], Result<u32, u32>); 16] = [
+const BODIES: [(&[Mark], Result<u32, u32>); 17] = [
     (&[], Err(4)),
     (&[Mark::Base(1)], Ok(4)),
     (&[Mark::Base(1), Mark::Base(1)], Err(4)),
@@ -274,6 +274,7 @@ const BODIES: [(&[Mark], Result<u32, u32>); 16] = [
     (&[Mark::Head(0)], Err(4)),
     (&[Mark::Head(0), Mark::Ref(1), Mark::Ref(1)], Err(4)),
     (&[Mark::Head(1), Mark::Ref(1), Mark::Ref(1)], Err(4)),
+    (&[Mark::Head(3), Mark::Ref(1)], Err(4)),
     (&[Mark::Head(4), Mark::Ref(1)], Err(4)),
 ];
 
@@ -290,6 +291,37 @@ fn bodies(rt: LibcRuntime) -> Result<(), Fail> {
         Err(4),
     )?;
     check_eq(cat.len(), 4)
+}
+
+// A body refers to every place of the whole list, the parent's too: `S T` of the trait, then `L`, `T`.
+#[test]
+fn bodies_in_a_trait(rt: LibcRuntime) -> Result<(), Fail> {
+    let rows = rows_of(rt.alloc(), b"LT")?;
+    let mut cat = stocked(rt.alloc())?;
+    let places = [
+        Mark::Ref(0),
+        Mark::Ref(1),
+        Mark::Ref(2),
+        Mark::Ref(3),
+        Mark::Ref(4),
+    ];
+    let alias = GenericDefKind::TypeAlias;
+    check_eq(
+        bodied(&mut cat, alias, Some(1), &rows, &places[0..1]),
+        Ok(4),
+    )?;
+    check_eq(
+        bodied(&mut cat, alias, Some(1), &rows, &places[2..3]),
+        Err(4),
+    )?;
+    check_eq(
+        bodied(&mut cat, alias, Some(1), &rows, &places[3..4]),
+        Ok(5),
+    )?;
+    check_eq(
+        bodied(&mut cat, alias, Some(1), &rows, &places[4..5]),
+        Err(4),
+    )
 }
 
 // Defaults refer to places before their own, the parent's among them.

@@ -82,7 +82,7 @@ fn plain<'a, 'b>(
     }
 }
 
-// The same without a body.
+// What declaring without a body answers.
 pub(crate) fn tried(
     cat: &mut Catalogue,
     kind: GenericDefKind,
@@ -92,7 +92,7 @@ pub(crate) fn tried(
     answered(cat, plain(kind, parent, rows))
 }
 
-// The same with a body.
+// What declaring with a body answers.
 pub(crate) fn bodied(
     cat: &mut Catalogue,
     kind: GenericDefKind,

@@ -14,15 +14,17 @@ mod words;
 
 use day::Day;
 use std::io;
+use std::io::BufRead;
+use std::io::BufReader;
 
 fn main(rt: LibcRuntime) -> io::Result<()> {
     let heap = rt.alloc();
     let mut day = Day::new(heap)?;
     let mut number = 0usize;
-    for line in rt.lines(heap) {
+    for line in BufReader::new(rt.stdin()).split(heap, b'\n') {
         let line = line?;
         number = number.saturating_add(1);
-        day.take_line(&rt, number, line.as_bytes())?;
+        day.take_line(&rt, number, line.as_slice())?;
     }
     Ok(())
 }

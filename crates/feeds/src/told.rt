@@ -46,10 +46,7 @@ pub(crate) fn tell_declared(
     rows: usize,
 ) -> io::Result<()> {
     let name = shown(name);
-    println!(
-        rt,
-        "{number}: `{name}` is definition {def}, with {rows} rows"
-    )
+    println!(rt, "{number}: `{name}` is definition {def}; rows: {rows}")
 }
 
 pub(crate) fn tell_refused(

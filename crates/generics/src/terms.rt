@@ -44,7 +44,8 @@ impl Scope<'_, '_, '_> {
 }
 
 impl Catalogue {
-    // A definition as it is held; one without rows where the number is not declared.
+    // A definition as it is held; a function without rows where the number is not declared (`Generics::kind` tells
+    // whether it is).
     pub fn def_at(&self, def: u32) -> Def
         ensures stored { λ r. ⌜ r ≡ defAt (now (self .entry)) def ⌝ }
         ensures means { λ r. ⌜ definitionOf (vec-items (now (self .entry) .rows)) (vec-items (now (self .entry) .marks)) r ≡ definitionAt (held (now (self .entry))) def ⌝ }

@@ -14,8 +14,8 @@ use Rattle.listing.specs.declared.scanning.Scan.{Scan}
 use Rattle.listing.specs.declared.shapes.Place.{Place}
 use Rattle.listing.specs.declared.shapes.Place.the-variants.{First, Next, Name, Gap, Colon, Inside, Behind}
 use Rattle.listing.specs.Blanks.{white}
-use Rattle.listing.specs.Nesting.{after, closed}
-use Rattle.listing.specs.Tokens.{deep, inside, letter, path-from, place-after, ends}
+use Rattle.listing.specs.Nesting.{after, closed, letter}
+use Rattle.listing.specs.Tokens.{deep, inside, path-from, place-after, ends}
 use Rattle.listing.proofs.Scans.{shallow}
 
 -- what a place behind a byte says of the rest

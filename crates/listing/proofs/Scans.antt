@@ -8,7 +8,7 @@ use Rattle.std.specs.declared.option.Option.{Option}
 use Rattle.std.specs.declared.option.Option.the-variants.{Some, None}
 use Rattle.listing.specs.declared.scanning.Mode.{Mode}
 use Rattle.listing.specs.declared.scanning.Role.{Role}
-use Rattle.listing.specs.declared.scanning.Role.the-variants.{Opens, Closes, Inner}
+use Rattle.listing.specs.declared.scanning.Role.the-variants.{Opens, Closes, Inner, Wrong}
 use Rattle.listing.specs.declared.scanning.Scan.{Scan}
 use Rattle.listing.specs.Nesting.{after, at-depth, moved, role, next-mode}
 
@@ -24,6 +24,7 @@ at-most m Closes n t e = lower (eqb n 0) e
     lower true e = let z : _≡_ {A = ℕ} 0 1 = cc in absurd (omega arith)
     lower false e = let d : n - 1 ≡ t .depth = cc in omega arith
 at-most m Inner n t e = let d : n ≡ t .depth = cc in omega arith
+at-most m Wrong n t e = let z : _≡_ {A = ℕ} 0 1 = cc in absurd (omega arith)
 
 -- a byte goes at most one deeper
 pub shallow : (s : Scan) (b : ℕ) (t : Scan) → after s b ≡ Some t → t .depth ≤ s .depth + 1

@@ -3,7 +3,7 @@ use mathlib.Core.Path.{_≡_}
 use mathlib.Core.Bool.{true, false, cond}
 use mathlib.Core.Logic.{_⊎_}
 use mathlib.Core.List.{List, [], _∷_, _++_, map}
-use Prim.Native.Nat.{ℕ, _+_}
+use Prim.Native.Nat.{ℕ, _+_, _^_, _<_}
 use lib.ListN.{length}
 use Rattle.std.specs.shelf.Lists.{All}
 use Rattle.std.specs.declared.option.Option.{Option}
@@ -52,14 +52,9 @@ abbrev pub args-of : List ℕ → ℕ → List Span → List GenericArg
 args-of text n [] = []
 args-of text n (s ∷ ss) = record { form = form (bare (part text s)); handle = n } ∷ args-of text (n + 1) ss
 
--- a text is not read since no arguments are written in it, or since they are too many to number
-abbrev pub Refused : {A : Type 0} → List ℕ → Result A ReadError → Type 0
-Refused text (Ok v) = Unit {0}
-Refused text (Err (Unreadable u)) = (u .reason ≡ Many) ⊎ (((ps : List (List ℕ)) → Written ps text → ⊥) × Faulty text u)
-Refused text (Err NoMemory) = Unit {0}
-
--- too many to number is the only reason
-abbrev pub OnlyMany : {A : Type 0} → Result A ReadError → Type 0
-OnlyMany (Ok v) = Unit {0}
-OnlyMany (Err (Unreadable u)) = u .reason ≡ Many
-OnlyMany (Err NoMemory) = Unit {0}
+-- a text is not read, behind n arguments, since no arguments are written in it, or since there would be more than
+-- 2^32 of them
+abbrev pub Refused : {A : Type 0} → ℕ → List ℕ → Result A ReadError → Type 0
+Refused n text (Ok v) = Unit {0}
+Refused n text (Err (Unreadable u)) = (((ps : List (List ℕ)) → Written ps text → ⊥) × Faulty text u) ⊎ ((u ≡ record { at = 0; reason = Many }) × ((ps : List (List ℕ)) × Written ps text × (2 ^ 32 < n + length ps)))
+Refused n text (Err NoMemory) = Unit {0}

@@ -7,7 +7,7 @@ use lib.Dec.{eqb, ltb}
 use lib.ListN.{length, getD}
 use Rattle.std.specs.declared.option.Option.{Option}
 use Rattle.std.specs.declared.option.Option.the-variants.{Some, None}
-use Rattle.std.specs.Text.{asciiDigit, asciiLetter}
+use Rattle.std.specs.Text.{asciiDigit}
 use Rattle.std.specs.shelf.Lists.{leading}
 use Rattle.std.specs.shelf.Text.{sameBytes}
 use Rattle.path.specs.declared.args.Form.{Form}
@@ -17,15 +17,7 @@ use Rattle.listing.specs.declared.scanning.Scan.{Scan}
 use Rattle.listing.specs.declared.shapes.Place.{Place}
 use Rattle.listing.specs.declared.shapes.Place.the-variants.{First, Next, Name, Gap, Colon, Inside, Behind}
 use Rattle.listing.specs.Blanks.{white}
-use Rattle.listing.specs.Nesting.{after, closed}
-
--- a letter or _
-abbrev pub letter : ℕ → Bool
-letter b = asciiLetter b || eqb b 95
-
--- a letter, _ or a digit
-abbrev pub name-byte : ℕ → Bool
-name-byte b = letter b || asciiDigit b
+use Rattle.listing.specs.Nesting.{after, closed, letter, name-byte}
 
 -- behind a name: white space, a colon or a list may follow
 abbrev behind : ℕ → Option Place

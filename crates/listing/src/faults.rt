@@ -6,7 +6,8 @@ use std::alloc::Refused;
 
 #[derive(Clone, Copy, PartialEq, Eq, Debug)]
 pub enum Reason {
-    // A bracket is closed that is not open.
+    // A bracket is closed that is not open, an apostrophe stands right behind a name, or a quoted character does not
+    // end.
     Unopened,
     // A bracket or a quote is not closed.
     Unclosed,

@@ -1,16 +1,19 @@
 // The arguments of a list.
 ghost use mathlib.Core.Path.{_≡_};
 ghost use mathlib.Core.List.{_++_};
-ghost use Rattle.std.specs.Of.Vec.{vec-items, vec-len};
-ghost use Rattle.std.specs.Vec.{made};
+ghost use Prim.Native.Nat.{_+_, _^_, _≤_};
+ghost use lib.ListN.{length};
+ghost use Rattle.std.specs.Of.Vec.{vec-cap, vec-items, vec-len};
+ghost use Rattle.std.specs.Vec.{made, refused};
 ghost use Rattle.std.specs.declared.result.Result.the-variants.{Ok};
 ghost use Rattle.listing.specs.Tokens.{form};
-ghost use Rattle.listing.specs.Arguments.{Listed, OnlyMany, Refused, args-of, bare, first-blank};
+ghost use Rattle.listing.specs.Arguments.{Listed, Refused, args-of, bare, first-blank};
 use crate::blanks::is_blank;
 use crate::blanks::trim;
 use crate::cutting::cut;
 use crate::faults::Fault;
 use crate::faults::ReadError;
+use crate::faults::ReadErrorFromAlloc;
 use crate::faults::ReadErrorFromRefused;
 use crate::faults::Reason;
 use crate::forms::form_of;
@@ -58,30 +61,22 @@ fn form_in(piece: &[u8]) -> Form
     form_of(trim(piece).of(piece))
 }
 
-// Adds an argument for each of `spans`. The handle of an argument is its number among `args`.
-fn push_arguments(text: &[u8], spans: &[Span], args: &mut Vec<GenericArg>) -> Result<(), ReadError>
-    ensures added { λ r. ⌜ made r (λ _. vec-items (now (args .exit)) ≡ vec-items (now (args .entry)) ++ args-of (now (text .entry)) (vec-len (now (args .entry))) (now (spans .entry))) ⌝ }
-    ensures refused { λ r. ⌜ OnlyMany r ⌝ }
+// Adds an argument for each of `spans`, for which memory is reserved and numbers are left. The handle of an
+// argument is its number among `args`.
+fn push_arguments(text: &[u8], spans: &[Span], args: &mut Vec<GenericArg>)
+    requires room { ⌜ vec-len (now args) + length (now spans) ≤ vec-cap (now args) ⌝ }
+    requires few { ⌜ vec-len (now args) + length (now spans) ≤ 2 ^ 32 ⌝ }
+    ensures { λ _. ⌜ vec-items (now (args .exit)) ≡ vec-items (now (args .entry)) ++ args-of (now (text .entry)) (vec-len (now (args .entry))) (now (spans .entry)) ⌝ }
 {
     for span in spans {
         let form = form_in(span.of(text));
-        let number = args.len();
-        if number > 0xffff_ffff {
-            return Err(ReadError::Unreadable(Fault {
-                at: span.from,
-                reason: Reason::Many,
-            }));
-        }
-        args.push(GenericArg {
-            form,
-            handle: number as u32,
-        })?;
+        let handle = args.len() as u32;
+        args.push_reserved(GenericArg { form, handle });
     }
-    Ok(())
 }
 
 // Reads the list whose text, between `<` and `>`, is `text`: adds one argument for each written one, in order,
-// and gives their places in the text.
+// and gives their places in the text. A refusal adds none.
 pub fn read_list(
     heap: Global,
     text: &[u8],
@@ -89,9 +84,18 @@ pub fn read_list(
 ) -> Result<Vec<Span>, ReadError>
     ensures written { λ r. ⌜ made r (λ v. Listed vec-items (now (text .entry)) (Ok v)) ⌝ }
     ensures added { λ r. ⌜ made r (λ v. vec-items (now (args .exit)) ≡ vec-items (now (args .entry)) ++ args-of (now (text .entry)) (vec-len (now (args .entry))) (vec-items v)) ⌝ }
-    ensures refused { λ r. ⌜ Refused (now (text .entry)) r ⌝ }
+    ensures refused { λ r. ⌜ Refused (vec-len (now (args .entry))) (now (text .entry)) r ⌝ }
+    ensures kept { λ r. ⌜ refused r (λ _. vec-items (now (args .exit)) ≡ vec-items (now (args .entry))) ⌝ }
 {
     let spans = arguments(heap, text)?;
-    push_arguments(text, spans.as_slice(), args)?;
+    let count = args.len().saturating_add(spans.len());
+    if count > 0x1_0000_0000 {
+        return Err(ReadError::Unreadable(Fault {
+            at: 0,
+            reason: Reason::Many,
+        }));
+    }
+    args.reserve(spans.len())?;
+    push_arguments(text, spans.as_slice(), args);
     Ok(spans)
 }

@@ -3,8 +3,10 @@ ghost use mathlib.Core.Path.{_≡_};
 ghost use lib.ListN.{getD};
 ghost use Rattle.std.specs.shelf.Lists.{leading};
 ghost use Rattle.std.specs.shelf.Text.{sameBytes};
-ghost use Rattle.listing.specs.Tokens.{name-byte, name-length};
-use crate::shapes::is_letter;
+ghost use Rattle.listing.specs.Tokens.{name-length};
+ghost use Rattle.listing.specs.Nesting.{name-byte};
+use crate::scanning::is_letter;
+use crate::scanning::is_name_byte;
 
 // Whether the two texts are the same.
 pub fn is_same(one: &[u8], other: &[u8]) -> bool
@@ -18,13 +20,6 @@ pub fn first_byte(text: &[u8]) -> u8
     ensures { λ r. ⌜ r ≡ getD (now (text .entry)) 0 0 ⌝ }
 {
     if text.is_empty() { 0 } else { text[0] }
-}
-
-// Whether `byte` may stand in a name: a letter, a digit or `_`.
-fn is_name_byte(byte: u8) -> bool
-    ensures { λ r. ⌜ r ≡ name-byte byte ⌝ }
-{
-    is_letter(byte) || byte.is_ascii_digit()
 }
 
 // How many bytes at the front of `text` may stand in a name.

@@ -1,11 +1,12 @@
 // The shape of a path, byte by byte.
 ghost use mathlib.Core.Path.{_≡_};
 ghost use Prim.Native.Nat.{_+_, _^_, _<_};
-ghost use Rattle.listing.specs.Tokens.{deep, ends, inside, letter, path-from, place-after};
+ghost use Rattle.listing.specs.Tokens.{deep, ends, inside, path-from, place-after};
 ghost use Rattle.listing.specs.declared.shapes.Place.the-variants.{First, Gap};
 use crate::blanks::is_white;
 use crate::scanning::Mode;
 use crate::scanning::Scan;
+use crate::scanning::is_letter;
 
 // A place in a path.
 #[derive(Clone, Copy)]
@@ -24,13 +25,6 @@ pub enum Place {
     Inside(Scan),
     // Behind a list.
     Behind,
-}
-
-// Whether a name may begin with `byte`: a letter or `_`.
-pub(crate) fn is_letter(byte: u8) -> bool
-    ensures { λ r. ⌜ r ≡ letter byte ⌝ }
-{
-    byte.is_ascii_alphabetic() || byte == b'_'
 }
 
 // The place behind a name and `byte`.

@@ -24,6 +24,7 @@ fn lists(rt: LibcRuntime) -> Result<(), Fail> {
         ("'main, Ring, 7", 3),
         ("'main, Ring, 7,", 3),
         ("Ring<Gold, Silver>, (A, B), [u8; 4], { f(1, 2) }", 4),
+        ("'é', A, '\\u{e9}', B, '\\n', '\\\\', ' ', '<'", 8),
         ("fn(A) -> B, ',', \"a, \\\", b\", '\\'', 'c", 5),
     ];
     for (text, n) in table {
@@ -40,6 +41,11 @@ fn unreadable(rt: LibcRuntime) -> Result<(), Fail> {
         ("A, (B", 5, Reason::Unclosed),
         ("A, \"B", 5, Reason::Unclosed),
         ("A>, B", 1, Reason::Unopened),
+        ("'ab', A, 'c", 3, Reason::Unopened),
+        ("', A, 'b", 2, Reason::Unopened),
+        ("A', B, 'c", 1, Reason::Unopened),
+        ("'\\n, A, 'c'", 3, Reason::Unopened),
+        ("A, 'é", 6, Reason::Unclosed),
     ];
     for (text, at, reason) in table {
         match arguments(rt.alloc(), text.as_bytes()) {

@@ -1,7 +1,7 @@
 use mathlib.Core.Path.{sym}
 use native.Mathlib.Omega.{arith}
 use Rattle.std.proofs.shelf.Sums.{leading-drop-yes, leading-drop-no, leading-drop-all}
-use Rattle.listing.specs.Tokens.{name-byte}
+use Rattle.listing.specs.Nesting.{name-byte}
 use Rattle.listing.proofs.names.word_len.Needs as need
 
 pub returns-then-not-is-name-byte : need.returns-then-not-is-name-byte

@@ -20,3 +20,6 @@ returns-else-self-eq0 c =
 
 pub returns-in-Inner : need.returns-in-Inner
 returns-in-Inner c = after-is _ _ _ _ (Some (c .args .self .depth)) (c .mode-after-mode .ensures) (c .in-Inner .ensures tt) refl
+
+pub returns-in-Wrong : need.returns-in-Wrong
+returns-in-Wrong c = after-is _ _ _ _ None (c .mode-after-mode .ensures) (c .in-Wrong .ensures tt) refl
