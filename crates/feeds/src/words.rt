@@ -9,7 +9,8 @@ use path::checked::CheckRefusal;
 
 pub(crate) fn reason_words(reason: Reason) -> &'static str {
     match reason {
-        Reason::Unopened => "a bracket or a quote ends here that did not begin, or is not right",
+        Reason::Unopened =>
+            "a bracket is closed that is not open, or an apostrophe is out of place",
         Reason::Unclosed => "a bracket or a quote is not closed",
         Reason::Empty => "nothing stands between two commas",
         Reason::Many => "there are too many arguments",
