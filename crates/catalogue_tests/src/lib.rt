@@ -1,4 +1,6 @@
 // Tests of the catalogue, in a crate of their own, so that the catalogue is proved once.
+#![tactic(auto)]
+
 #[cfg(test)]
 mod limits;
 #[cfg(test)]

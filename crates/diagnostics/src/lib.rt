@@ -1,4 +1,6 @@
 // Reports about the generic arguments of a path, and the lists that they are told to.
+#![tactic(auto)]
+
 pub mod laws;
 pub mod lent;
 pub mod list;

@@ -4,6 +4,8 @@
 // Blank lines and lines that begin with `#` are skipped. `[templates]` and `[schedule]` begin a section; a line
 // before either cannot be read. A line that cannot be read is told with its number and column, and nothing of it
 // is carried out.
+#![tactic(auto)]
+
 mod day;
 mod known;
 mod paths;

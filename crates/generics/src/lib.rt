@@ -1,4 +1,6 @@
 // The catalogue: definitions that follow the rules, and nothing else, enter it.
+#![tactic(auto)]
+
 pub mod catalogue;
 pub mod declare;
 mod lay;

@@ -6,6 +6,8 @@
 // `','` and `"a, b"` are one argument each. A quoted character is an apostrophe, one character or an escape, and an
 // apostrophe; `'a` is a lifetime. An apostrophe right behind a name, and a quoted character that does not end, cannot
 // be read, so that no stray apostrophe hides a comma.
+#![tactic(auto)]
+
 pub mod blanks;
 pub mod cutting;
 pub mod faults;

@@ -1,4 +1,6 @@
 // Tests of the two lowerers, in a crate of their own, so that the lowerers are proved once.
+#![tactic(auto)]
+
 #[cfg(test)]
 mod kept;
 #[cfg(test)]

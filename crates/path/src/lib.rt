@@ -1,4 +1,6 @@
 // Paths: their segments, the written arguments, and the check that comes before matching.
+#![tactic(auto)]
+
 pub mod args;
 pub mod checked;
 mod prohibited;

@@ -1,4 +1,6 @@
 // Pieces: marks and entries mixed, as a term is written out with entries in it.
+#![tactic(auto)]
+
 ghost use Rattle.std.specs.Prelude.{◌≡◌, length};
 ghost use Rattle.pieces.specs.Pieces.{piece_with, IsNoRef, RefBelow};
 
