@@ -6,9 +6,9 @@ use Rattle.generics.proofs.lay.lay_marks.Goals as goal
 
 pub loop-mark-preserved : goal.loop-mark-preserved
 loop-mark-preserved c = (
-  push_on _ _ _ c.args.new.now c.loop-mark.mark-index (Ref 0) c.loop-mark-test.true c.loop-mark.invariant.0 c.push-reserved.ensures.items,
-  c.push-reserved.ensures.capacity ∙ c.loop-mark.invariant.1,
-  omega (arith, c.push-reserved.ensures.len, c.loop-mark.invariant.2),
+  push_on _ _ _ c.args.new.now c.loop-mark.mark-index (Ref 0) c.loop-mark-test.true c.loop-mark.invariant.0 c.push_reserved.ensures.items,
+  c.push_reserved.ensures.capacity ∙ c.loop-mark.invariant.1,
+  omega (arith, c.push_reserved.ensures.len, c.loop-mark.invariant.2),
 )
 
 pub returns : goal.returns

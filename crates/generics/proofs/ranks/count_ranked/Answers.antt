@@ -12,7 +12,7 @@ loop-row-preserved g c =
     let n = c.args.rank in
     let test : RowKind → Bool = λ k. eqb (rank k) n in
     let x = c.row-item.result in
-    let k : c.rank.result ≡ rank (f x) = c.rank.ensures ∙ ap rank c.row-kind.ensures in
+    let k : c.rank.result ≡ rank (f x) = c.rank.ensures ∙ ap rank c.row_kind.ensures in
     elim c.if-rank.branch [
       | then-rank w ↦ counts test f c.args.rows.now c.loop-row.row-index c.loop-row.count _ x c.loop-row-test.true c.row-item.is c.loop-row.invariant (eq-eqb (rank (f x)) n (sym k ∙ w.if-rank.true)) w.count-is
       | else-rank w ↦ passes test f c.args.rows.now c.loop-row.row-index c.loop-row.count _ x c.loop-row-test.true c.row-item.is c.loop-row.invariant (ne_eqb (rank (f x)) n (λ q. w.if-rank.false (k ∙ q))) w.count-is

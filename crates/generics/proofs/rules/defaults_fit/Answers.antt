@@ -6,8 +6,8 @@ use Rattle.generics.proofs.Walked.{no_param, defaults_stop, defaults_go}
 use Rattle.generics.proofs.rules.defaults_fit.Goals as goal
 use Rattle.generics.proofs.rules.defaults_fit.Goals.{then-seen, else-seen}
 
-pub returns-then-not-default-fits : goal.returns-then-not-default-fits
-returns-then-not-default-fits c = defaults_stop c.args.rows.now c.loop-row.row-index c.loop-row-test.true c.loop-row.seen c.loop-row.invariant (sym c.if-not-default-fits.ensures)
+pub returns-then-not-default_fits : goal.returns-then-not-default_fits
+returns-then-not-default_fits c = defaults_stop c.args.rows.now c.loop-row.row-index c.loop-row-test.true c.loop-row.seen c.loop-row.invariant (sym c.if-not-default_fits.ensures)
 
 -- whether a default was seen, with this row
 seen_is : (c : goal.Joined-seen) → c.if-seen.seen ≡ c.loop-row.seen || is_some (param_asked (get_or c.args.rows.now c.loop-row.row-index no_param)).default
@@ -20,7 +20,7 @@ pub loop-row-preserved : goal.loop-row-preserved
 loop-row-preserved c =
     let rows = c.args.rows.now in
     let i = c.loop-row.row-index in
-    ap (λ b. defaults_right b (params_asked (drop (i + 1) rows))) (seen_is c) ∙ defaults_go rows i c.loop-row-test.true c.loop-row.seen c.loop-row.invariant (sym c.if-not-default-fits.ensures)
+    ap (λ b. defaults_right b (params_asked (drop (i + 1) rows))) (seen_is c) ∙ defaults_go rows i c.loop-row-test.true c.loop-row.seen c.loop-row.invariant (sym c.if-not-default_fits.ensures)
 
 pub returns : goal.returns
 returns c = sym (at_drop_all (λ xs. defaults_right c.loop-row.seen (params_asked xs)) c.args.rows.now c.loop-row.row-index c.loop-row-test.false) ∙ c.loop-row.invariant

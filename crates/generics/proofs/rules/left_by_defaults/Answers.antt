@@ -9,12 +9,12 @@ use Rattle.generics.proofs.rules.left_by_defaults.Goals as goal
 pub returns-then-free-marks : goal.returns-then-free-marks
 returns-then-free-marks c =
     let m = marks_more c.args.rows.now c.loop-row.row-index c.loop-row-test.true in
-    sym (lessen_none _ _ _ c.if-free-marks.true) ∙ ap (λ n. lessen c.loop-row.free n) (ap (λ k. k + default_marks (params_asked (drop (c.loop-row.row-index + 1) c.args.rows.now))) c.marks-in-marks.ensures ∙ sym m) ∙ c.loop-row.invariant
+    sym (lessen_none _ _ _ c.if-free-marks.true) ∙ ap (λ n. lessen c.loop-row.free n) (ap (λ k. k + default_marks (params_asked (drop (c.loop-row.row-index + 1) c.args.rows.now))) c.marks_in-marks.ensures ∙ sym m) ∙ c.loop-row.invariant
 
 pub loop-row-preserved : goal.loop-row-preserved
 loop-row-preserved c =
     let m = marks_more c.args.rows.now c.loop-row.row-index c.loop-row-test.true in
-    sym (lessen_more _ _ _ c.if-free-marks.false) ∙ ap (λ n. lessen c.loop-row.free n) (ap (λ k. k + default_marks (params_asked (drop (c.loop-row.row-index + 1) c.args.rows.now))) c.marks-in-marks.ensures ∙ sym m) ∙ c.loop-row.invariant
+    sym (lessen_more _ _ _ c.if-free-marks.false) ∙ ap (λ n. lessen c.loop-row.free n) (ap (λ k. k + default_marks (params_asked (drop (c.loop-row.row-index + 1) c.args.rows.now))) c.marks_in-marks.ensures ∙ sym m) ∙ c.loop-row.invariant
 
 pub returns : goal.returns
 returns c = lessen_all c.loop-row.free ∙ sym (ap (λ n. lessen c.loop-row.free n) (at_drop_all (λ xs. default_marks (params_asked xs)) c.args.rows.now c.loop-row.row-index c.loop-row-test.false)) ∙ c.loop-row.invariant

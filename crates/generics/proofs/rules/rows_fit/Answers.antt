@@ -15,23 +15,23 @@ kind_in g = g.kind
 pub returns-then-rows-gt32 : goal.returns-then-rows-gt32
 returns-then-rows-gt32 c = let l = length-map c.args.rows.now param_asked in grind (arith, nat_tests)
 
-pub returns-then-count-ranked-self-rows : goal.returns-then-count-ranked-self-rows
-returns-then-count-ranked-self-rows c =
+pub returns-then-count_ranked-self_rows : goal.returns-then-count_ranked-self_rows
+returns-then-count_ranked-self_rows c =
     let gs = c.args.rows.now in
     let k = c.args.kind in
-    fails_third _ _ _ _ (le-leb (length gs) 32 c.if-rows-gt32.false) (sym c.if-not-rows-in-order.ensures) (ne_eqb (ranked 0 (map kind_in gs)) (selves_of k) (λ e. c.if-count-ranked-self-rows.true (c.count-ranked.ensures ∙ e ∙ sym c.self-rows.ensures))) ∙ sym (rows_by k gs)
+    fails_third _ _ _ _ (le-leb (length gs) 32 c.if-rows-gt32.false) (sym c.if-not-rows_in_order.ensures) (ne_eqb (ranked 0 (map kind_in gs)) (selves_of k) (λ e. c.if-count_ranked-self_rows.true (c.count_ranked.ensures ∙ e ∙ sym c.self_rows.ensures))) ∙ sym (rows_by k gs)
 
-pub returns-then-is-function : goal.returns-then-is-function
-returns-then-is-function c =
+pub returns-then-is_function : goal.returns-then-is_function
+returns-then-is_function c =
     let gs = c.args.rows.now in
     let k = c.args.kind in
-    let t = c.if-is-function.ensures in
-    let e : eqb (ranked 0 (map kind_in gs)) (selves_of k) ≡ true = eq-eqb _ _ (sym c.count-ranked.ensures ∙ c.if-count-ranked-self-rows.false ∙ c.self-rows.ensures) in
-    (c.if-is-function.true ∙ sym (or_left (is_function k) (eqb (ranked 3 (map kind_in gs)) 0) (sym t))) ∙ fourth _ _ _ _ (le-leb (length gs) 32 c.if-rows-gt32.false) (sym c.if-not-rows-in-order.ensures) e ∙ sym (rows_by k gs)
+    let t = c.if-is_function.ensures in
+    let e : eqb (ranked 0 (map kind_in gs)) (selves_of k) ≡ true = eq-eqb _ _ (sym c.count_ranked.ensures ∙ c.if-count_ranked-self_rows.false ∙ c.self_rows.ensures) in
+    (c.if-is_function.true ∙ sym (or_left (is_function k) (eqb (ranked 3 (map kind_in gs)) 0) (sym t))) ∙ fourth _ _ _ _ (le-leb (length gs) 32 c.if-rows-gt32.false) (sym c.if-not-rows_in_order.ensures) e ∙ sym (rows_by k gs)
 
-pub returns-else-is-function : goal.returns-else-is-function
-returns-else-is-function c =
+pub returns-else-is_function : goal.returns-else-is_function
+returns-else-is_function c =
     let gs = c.args.rows.now in
     let k = c.args.kind in
-    let e : eqb (ranked 0 (map kind_in gs)) (selves_of k) ≡ true = eq-eqb _ _ (sym c.count-ranked.ensures ∙ c.if-count-ranked-self-rows.false ∙ c.self-rows.ensures) in
-    (ap (λ n. eqb n 0) c.count-ranked-else-is-function.ensures ∙ ap (λ b. b || eqb (ranked 3 (map kind_in gs)) 0) c.if-is-function.ensures) ∙ fourth _ _ _ _ (le-leb (length gs) 32 c.if-rows-gt32.false) (sym c.if-not-rows-in-order.ensures) e ∙ sym (rows_by k gs)
+    let e : eqb (ranked 0 (map kind_in gs)) (selves_of k) ≡ true = eq-eqb _ _ (sym c.count_ranked.ensures ∙ c.if-count_ranked-self_rows.false ∙ c.self_rows.ensures) in
+    (ap (λ n. eqb n 0) c.count_ranked-else-is_function.ensures ∙ ap (λ b. b || eqb (ranked 3 (map kind_in gs)) 0) c.if-is_function.ensures) ∙ fourth _ _ _ _ (le-leb (length gs) 32 c.if-rows-gt32.false) (sym c.if-not-rows_in_order.ensures) e ∙ sym (rows_by k gs)

@@ -11,10 +11,10 @@ loop-n-init c = (omega arith, omega (arith, ap (suffix_len white) (take_all (len
 pub loop-n-preserved : goal.loop-n-preserved
 loop-n-preserved c =
     let h = c.loop-n.invariant in
-    let more = suffix_len-take_yes white c.args.text.now c.loop-n.n 0 c.loop-n-test.true h.0 (sym c.if-is-white.ensures) in
+    let more = suffix_len-take_yes white c.args.text.now c.loop-n.n 0 c.loop-n-test.true h.0 (sym c.if-is_white.ensures) in
     (omega arith, omega (arith, h.1))
 
-pub returns-else-is-white : goal.returns-else-is-white
-returns-else-is-white c =
+pub returns-else-is_white : goal.returns-else-is_white
+returns-else-is_white c =
     let h = c.loop-n.invariant in
-    omega (arith, h.1, suffix_len-take_no white c.args.text.now c.loop-n.n 0 c.loop-n-test.true h.0 (sym c.if-is-white.ensures))
+    omega (arith, h.1, suffix_len-take_no white c.args.text.now c.loop-n.n 0 c.loop-n-test.true h.0 (sym c.if-is_white.ensures))

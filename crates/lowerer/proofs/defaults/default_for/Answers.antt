@@ -14,24 +14,24 @@ returns-then-infer g c =
       exactly = default_exactly;
     }
 
-pub returns-then-fill-before : goal.returns-then-fill-before
-returns-then-fill-before g c =
+pub returns-then-fill_before : goal.returns-then-fill_before
+returns-then-fill_before g c =
     let ds = held c.args.cat.now in
     let r = c.args.row in
     let f = fills ds r (kinds_by g.E.Entry.means c.args.preceding.now) in
     let there = c.in-Some.ensures ∙ shown_default c.of.result c.args.cat.now r.def r.place c.of.ensures.catalogue c.of.ensures.definition in
     record {
-      marks = there ∙ some_filled c.args.infer f (default_of (param_at ds r.def r.place)) c.if-infer.false (sym c.fill-before.ensures ∙ c.if-fill-before.true);
+      marks = there ∙ some_filled c.args.infer f (default_of (param_at ds r.def r.place)) c.if-infer.false (sym c.fill_before.ensures ∙ c.if-fill_before.true);
       exactly = default_exactly;
     }
 
-pub returns-else-fill-before : goal.returns-else-fill-before
-returns-else-fill-before g c =
+pub returns-else-fill_before : goal.returns-else-fill_before
+returns-else-fill_before g c =
     let ds = held c.args.cat.now in
     let r = c.args.row in
     let f = fills ds r (kinds_by g.E.Entry.means c.args.preceding.now) in
     record {
-      marks = none_unfilled c.args.infer f (default_of (param_at ds r.def r.place)) (sym c.fill-before.ensures ∙ c.if-fill-before.false);
+      marks = none_unfilled c.args.infer f (default_of (param_at ds r.def r.place)) (sym c.fill_before.ensures ∙ c.if-fill_before.false);
       exactly = default_exactly;
     }
 

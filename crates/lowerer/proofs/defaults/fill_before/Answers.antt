@@ -29,4 +29,4 @@ returns g c =
     let r : whole_rows (among v) (meant v) ≡ rows = shown_rows v c.args.cat.now c.args.row.def c.of-generics.ensures.catalogue c.of-generics.ensures.definition in
     let l : length (whole_rows (among v) (meant v)) ≡ length rows = ap length r in
     let n : length c.args.preceding.now ≡ min c.args.row.place (length rows) = omega (arith, c.if-preceding-min.false, c.min.ensures, c.len.ensures) in
-    c.are-alike.ensures ∙ ap (λ ps. same_kinds (kinds_by g.E.Entry.means c.args.preceding.now) (kinds_of ps)) (ap (take (length c.args.preceding.now)) r ∙ taken rows c.args.row.place (length c.args.preceding.now) n)
+    c.are_alike.ensures ∙ ap (λ ps. same_kinds (kinds_by g.E.Entry.means c.args.preceding.now) (kinds_of ps)) (ap (take (length c.args.preceding.now)) r ∙ taken rows c.args.row.place (length c.args.preceding.now) n)

@@ -6,8 +6,8 @@ use Rattle.path.specs.Prohibits.{report_on, reports_on}
 use Rattle.path.proofs.Modules.{one_more, short}
 use Rattle.path.proofs.prohibited.tell_modules.Goals as goal
 
-pub tell-list-requires : goal.tell-list-requires
-tell-list-requires g c =
+pub tell_list-requires : goal.tell_list-requires
+tell_list-requires g c =
     let ms = take c.loop-i.i c.args.modules.now in
     omega (arith, c.loop-i.invariant.room, short 0 ms, length-take c.loop-i.i c.args.modules.now, c.requires.room, c.loop-i-test.true)
 
@@ -19,7 +19,7 @@ loop-i-preserved g c =
     let ms = c.args.modules.now in
     let i = c.loop-i.i in
     let e = one_more ms i (record { args = None }) c.loop-i-test.true in
-    rw e (told_then (reports_on 0 (take i ms)) (report_on i (get_or ms i (record { args = None })).args (Some Module)) _ _ _ c.loop-i.invariant c.tell-list.ensures)
+    rw e (told_then (reports_on 0 (take i ms)) (report_on i (get_or ms i (record { args = None })).args (Some Module)) _ _ _ c.loop-i.invariant c.tell_list.ensures)
 
 pub returns : goal.returns
 returns g c =

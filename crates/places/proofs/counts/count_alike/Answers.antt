@@ -17,9 +17,9 @@ loop-row-preserved c =
     let test : RowKind → Bool = λ k. same_bool (is_lifetime k) b in
     let x = get_or rows i no_row in
     let h = c.loop-row-test.true in
-    elim c.if-is-alike.branch [
-      | then-is-alike w ↦ counts test (λ (r : Row). r.kind) rows i c.loop-row.count _ x h (item_self rows i no_row h) c.loop-row.invariant (sym c.is-alike.ensures ∙ w.if-is-alike.true) w.count-is
-      | else-is-alike w ↦ passes test (λ (r : Row). r.kind) rows i c.loop-row.count _ x h (item_self rows i no_row h) c.loop-row.invariant (sym c.is-alike.ensures ∙ w.if-is-alike.false) w.count-is
+    elim c.if-is_alike.branch [
+      | then-is-alike w ↦ counts test (λ (r : Row). r.kind) rows i c.loop-row.count _ x h (item_self rows i no_row h) c.loop-row.invariant (sym c.is_alike.ensures ∙ w.if-is_alike.true) w.count-is
+      | else-is-alike w ↦ passes test (λ (r : Row). r.kind) rows i c.loop-row.count _ x h (item_self rows i no_row h) c.loop-row.invariant (sym c.is_alike.ensures ∙ w.if-is_alike.false) w.count-is
     ]
 
 pub returns : goal.returns

@@ -6,8 +6,8 @@ use Rattle.generics.proofs.Tallied.{counts, passes, counted}
 use Rattle.places.proofs.counts.count_defaulted.Goals as goal
 use Rattle.places.proofs.counts.count_defaulted.Goals.{then-is-some, else-is-some}
 
-pub overflow-add-count : goal.overflow-add-count
-overflow-add-count c = omega (arith, (c.loop-row.invariant []).1)
+pub overflow_add-count : goal.overflow_add-count
+overflow_add-count c = omega (arith, (c.loop-row.invariant []).1)
 
 pub loop-row-preserved : goal.loop-row-preserved
 loop-row-preserved c = λ marks.
@@ -17,9 +17,9 @@ loop-row-preserved c = λ marks.
     let x = get_or rows i no_row in
     let h = c.loop-row-test.true in
     let s = spelled_some marks x.default in
-    elim c.if-is-some.branch [
-      | then-is-some w ↦ counts test (param_of marks) rows i c.loop-row.count _ x h (item_self rows i no_row h) (c.loop-row.invariant marks) (s ∙ sym c.is-some.ensures ∙ w.if-is-some.true) w.count-is
-      | else-is-some w ↦ passes test (param_of marks) rows i c.loop-row.count _ x h (item_self rows i no_row h) (c.loop-row.invariant marks) (s ∙ sym c.is-some.ensures ∙ w.if-is-some.false) w.count-is
+    elim c.if-is_some.branch [
+      | then-is-some w ↦ counts test (param_of marks) rows i c.loop-row.count _ x h (item_self rows i no_row h) (c.loop-row.invariant marks) (s ∙ sym c.is_some.ensures ∙ w.if-is_some.true) w.count-is
+      | else-is-some w ↦ passes test (param_of marks) rows i c.loop-row.count _ x h (item_self rows i no_row h) (c.loop-row.invariant marks) (s ∙ sym c.is_some.ensures ∙ w.if-is_some.false) w.count-is
     ]
 
 pub returns : goal.returns

@@ -27,9 +27,9 @@ returns c =
     let k = (get_or rows i no_row).kind in
     let h = c.if-i-rows.false in
     let l = length-map rows (λ (r : Row). r.kind) in
-    let b = c.is-lifetime-lifetime.result in
+    let b = c.is_lifetime-lifetime.result in
     let f : RowKind → GenericParamId = λ x. record { def = d; lifetime = is_lifetime x; local = alike (is_lifetime x) (take i (kinds_held rows)) } in
     let there = nth_at (kinds_held rows) i TraitSelf (omega (arith, h)) ∙ ap Some (get_or-map (λ (r : Row). r.kind) rows i no_row TraitSelf h) in
     let z : i - 0 ≡ i = omega arith in
-    let n : c.count-alike-local.result ≡ alike b (take i (kinds_held rows)) = c.count-alike-local.ensures ∙ ap (λ m. alike b (kinds_held (take m rows))) z ∙ ap (alike b) (sym (take-map (λ (r : Row). r.kind) i rows)) in
-    ap (λ m. Some (record { def = d; lifetime = b; local = m })) n ∙ ap (λ x. Some (record { def = d; lifetime = x; local = alike x (take i (kinds_held rows)) })) c.is-lifetime-lifetime.ensures ∙ ap (option_map f) (sym there)
+    let n : c.count_alike-local.result ≡ alike b (take i (kinds_held rows)) = c.count_alike-local.ensures ∙ ap (λ m. alike b (kinds_held (take m rows))) z ∙ ap (alike b) (sym (take-map (λ (r : Row). r.kind) i rows)) in
+    ap (λ m. Some (record { def = d; lifetime = b; local = m })) n ∙ ap (λ x. Some (record { def = d; lifetime = x; local = alike x (take i (kinds_held rows)) })) c.is_lifetime-lifetime.ensures ∙ ap (option_map f) (sym there)

@@ -14,25 +14,25 @@ use Rattle.generics.proofs.Appended.{Kept, kept_more, new_def}
 use Rattle.generics.proofs.Sizes.{Roomy, roomy, defs_long, asked_long}
 use Rattle.generics.proofs.catalogue.Catalogue.append.Goals as goal
 
-pub overflow-cast-number : goal.overflow-cast-number
-overflow-cast-number c =
+pub overflow_cast-number : goal.overflow_cast-number
+overflow_cast-number c =
     let r = roomy c.args.self.now c.args.d c.requires.fits in
     omega (arith, c.len-number.ensures.count, defs_long c.args.self.now)
 
-pub lay-rows-requires : goal.lay-rows-requires
-lay-rows-requires c =
+pub lay_rows-requires : goal.lay_rows-requires
+lay_rows-requires c =
     let cat = c.args.self.now in
     let r = roomy cat c.args.d c.requires.fits in
     record { rows = omega (arith, cat.rows_room); marks = omega (arith, cat.marks_room) }
 
-pub lay-term-body-requires : goal.lay-term-body-requires
-lay-term-body-requires c =
+pub lay_term-body-requires : goal.lay_term-body-requires
+lay_term-body-requires c =
     let cat = c.args.self.now in
     let r = roomy cat c.args.d c.requires.fits in
-    omega (arith, cat.marks_room, c.lay-rows.ensures.marks-len, c.lay-rows.ensures.marks-capacity)
+    omega (arith, cat.marks_room, c.lay_rows.ensures.marks_len, c.lay_rows.ensures.marks_capacity)
 
-pub push-reserved-requires : goal.push-reserved-requires
-push-reserved-requires c =
+pub push_reserved-requires : goal.push_reserved-requires
+push_reserved-requires c =
     let cat = c.args.self.now in
     let r = roomy cat c.args.d c.requires.fits in
     omega (arith, cat.defs_room)
@@ -53,16 +53,16 @@ grown cat d law room first from body defs rows flats marks is-first is-from is_I
     (is-rows ∙ ap (λ n. vec_items cat.rows ++ laid n x.rows) cat.marks.ok.0)
     (is-marks ∙ ap (λ l. l ++ marks_of x.body) is-flats)
 
-pub invariant-of-self : goal.invariant-of-self
-invariant-of-self c =
+pub invariant_of-self : goal.invariant_of-self
+invariant_of-self c =
     let cat = c.args.self.now in
-    let k = (grown cat c.args.d c.requires.follows c.requires.fits _ _ _ _ _ _ _ c.len-first.ensures c.lay-rows.ensures.marks-len c.lay-term-body.ensures.span c.push-reserved.ensures.items c.lay-rows.ensures.rows c.lay-rows.ensures.marks c.lay-term-body.ensures.items).0 in
-    (k.within, (k.counted, (k.limited, (k.lawful, (omega (arith, cat.defs_room, c.push-reserved.ensures.capacity), (omega (arith, cat.rows_room, c.lay-rows.ensures.rows-capacity), (omega (arith, cat.marks_room, c.lay-rows.ensures.marks-capacity, c.lay-term-body.ensures.capacity), tt)))))))
+    let k = (grown cat c.args.d c.requires.follows c.requires.fits _ _ _ _ _ _ _ c.len-first.ensures c.lay_rows.ensures.marks_len c.lay_term-body.ensures.span c.push_reserved.ensures.items c.lay_rows.ensures.rows c.lay_rows.ensures.marks c.lay_term-body.ensures.items).0 in
+    (k.within, (k.counted, (k.limited, (k.lawful, (omega (arith, cat.defs_room, c.push_reserved.ensures.capacity), (omega (arith, cat.rows_room, c.lay_rows.ensures.rows_capacity), (omega (arith, cat.marks_room, c.lay_rows.ensures.marks_capacity, c.lay_term-body.ensures.capacity), tt)))))))
 
 pub returns : goal.returns
 returns c =
     let cat = c.args.self.now in
     record {
       number = c.len-number.ensures.count;
-      held = (grown cat c.args.d c.requires.follows c.requires.fits _ _ _ _ _ _ _ c.len-first.ensures c.lay-rows.ensures.marks-len c.lay-term-body.ensures.span c.push-reserved.ensures.items c.lay-rows.ensures.rows c.lay-rows.ensures.marks c.lay-term-body.ensures.items).1;
+      held = (grown cat c.args.d c.requires.follows c.requires.fits _ _ _ _ _ _ _ c.len-first.ensures c.lay_rows.ensures.marks_len c.lay_term-body.ensures.span c.push_reserved.ensures.items c.lay_rows.ensures.rows c.lay_rows.ensures.marks c.lay_term-body.ensures.items).1;
     }

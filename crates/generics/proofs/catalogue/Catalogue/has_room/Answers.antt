@@ -40,4 +40,4 @@ returns-in-Some c =
     let body = marks_in (asked d).body in
     let e : 2048 - c.len-3.result ≡ 2048 - mark_total (held cat) = omega (arith, c.len-3.ensures) in
     let found = rw e at c.in-Some.ensures in
-    ap (λ x. leb x c.in-Some.left) c.marks-in.ensures ∙ lessen_left (2048 - mark_total (held cat)) marks c.in-Some.left body found ∙ room_moved (mark_total (held cat)) (marks + body) 2048 (omega (arith, few.2)) ∙ marks_decide (length (held cat)) (row_total (held cat) + length (asked d).rows) _ (omega (arith, c.len.ensures)) (omega (arith, c.len-2.ensures, few.1))
+    ap (λ x. leb x c.in-Some.left) c.marks_in.ensures ∙ lessen_left (2048 - mark_total (held cat)) marks c.in-Some.left body found ∙ room_moved (mark_total (held cat)) (marks + body) 2048 (omega (arith, few.2)) ∙ marks_decide (length (held cat)) (row_total (held cat) + length (asked d).rows) _ (omega (arith, c.len.ensures)) (omega (arith, c.len-2.ensures, few.1))

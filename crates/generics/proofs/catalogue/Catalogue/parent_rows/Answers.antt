@@ -8,7 +8,7 @@ pub returns-in-Some : goal.returns-in-Some
 returns-in-Some c =
     let cat = c.args.self.now in
     record {
-      kinds = ap row_kinds c.own-rows.ensures.rows ∙ kinds_at (vec_items cat.defs) (vec_items cat.rows) (vec_items cat.marks) c.in-Some.parent ∙ ap (λ p. kinds_of (parent_rows (held cat) p)) (sym c.in-Some.is);
-      params = c.own-rows.ensures.params ∙ ap (parent_rows (held cat)) (sym c.in-Some.is);
-      within = c.own-rows.ensures.within;
+      kinds = ap row_kinds c.own_rows.ensures.rows ∙ kinds_at (vec_items cat.defs) (vec_items cat.rows) (vec_items cat.marks) c.in-Some.parent ∙ ap (λ p. kinds_of (parent_rows (held cat) p)) (sym c.in-Some.is);
+      params = c.own_rows.ensures.params ∙ ap (parent_rows (held cat)) (sym c.in-Some.is);
+      within = c.own_rows.ensures.within;
     }

@@ -10,7 +10,7 @@ returns-then-self-len c =
     let cat = c.args.self.now.cat.now in
     let d = c.args.self.now.def in
     let h : d < length (held cat) = omega (arith, c.len.ensures.count) in
-    ap (λ (x : Definition). Some x.kind) c.def-at.ensures.means ∙ ap (option_map (λ (x : Definition). x.kind)) (sym (nth_at (held cat) d nothing h))
+    ap (λ (x : Definition). Some x.kind) c.def_at.ensures.means ∙ ap (option_map (λ (x : Definition). x.kind)) (sym (nth_at (held cat) d nothing h))
 
 pub returns-else-self-len : goal.returns-else-self-len
 returns-else-self-len c =

@@ -8,4 +8,4 @@ use Rattle.places.proofs.view.Generics.len_parent.Goals as goal
 pub returns : goal.returns
 returns c =
     let cat = c.args.self.now.cat.now in
-    sym (length-map c.parent-rows.result.now (param_of (vec_items cat.marks))) ∙ ap length c.parent-rows.ensures.params ∙ ap (λ p. length (parent_rows (held cat) p)) c.parent.ensures
+    sym (length-map c.parent_rows.result.now (param_of (vec_items cat.marks))) ∙ ap length c.parent_rows.ensures.params ∙ ap (λ p. length (parent_rows (held cat) p)) c.parent.ensures

@@ -11,5 +11,5 @@ all_same ha hb hc hd he hf = rw (ha, hb, hc, hd, he, hf)
 pub returns : goal.returns
 returns c =
     let marks = vec_items c.args.self.now.cat.now.marks in
-    let k = kinds_meant marks _ _ c.own-rows-rows.ensures.params in
-    all_same c.len-parent.ensures (c.count-ranked.ensures ∙ ap (ranked 0) k) (c.count-ranked-2.ensures ∙ ap (ranked 1) k) (c.count-ranked-3.ensures ∙ ap (ranked 2) k) (c.count-defaulted.ensures marks ∙ ap defaulted c.own-rows-rows.ensures.params) (c.count-ranked-4.ensures ∙ ap (ranked 3) k)
+    let k = kinds_meant marks _ _ c.own_rows-rows.ensures.params in
+    all_same c.len_parent.ensures (c.count_ranked.ensures ∙ ap (ranked 0) k) (c.count_ranked-2.ensures ∙ ap (ranked 1) k) (c.count_ranked-3.ensures ∙ ap (ranked 2) k) (c.count_defaulted.ensures marks ∙ ap defaulted c.own_rows-rows.ensures.params) (c.count_ranked-4.ensures ∙ ap (ranked 3) k)

@@ -27,7 +27,7 @@ returns-in-Some c =
     let ms = c.in-Some.marks.now in
     let row = c.args.row in
     let infer = c.args.infer in
-    let e : TermArg = record { meaning = c.at-row-meaning.result; part = Some c.write-part.result } in
+    let e : TermArg = record { meaning = c.at_row-meaning.result; part = Some c.write-part.result } in
     let stock = places_left (length s.store.now) s.used / 32 in
     let r = entries_reached ds cat.lawful meant_by entries row infer ms c.in-Some.ensures.marks in
     let h : 0 < stock = omega (arith, c.stock.ensures, c.if-stock-gt0.true) in
@@ -37,7 +37,7 @@ returns-in-Some c =
     let size = w.keeps.size in
     let left : places_left (length t.store.now) t.used ≡ places_left (length s.store.now) s.used - length ms = omega (arith, w.places) in
     record {
-      entry = c.at-row-meaning.ensures ∙ entry_default (row_kind_at ds row) stock (default_for ds row infer before) ms h (sym c.in-Some.ensures.marks);
+      entry = c.at_row-meaning.ensures ∙ entry_default (row_kind_at ds row) stock (default_for ds row infer before) ms h (sym c.in-Some.ensures.marks);
       state = record {
         told = refl;
         room = refl;
