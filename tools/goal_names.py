@@ -13,7 +13,8 @@ import sys
 
 KIT = """overflow_add overflow_sub overflow_mul overflow_cast overflow_shl overflow_shr overflow_step offset_bounds
 slice_bounds invariant_of nonzero_div nonzero_rem in_ok in_err in_default type_inv yielded_by push_reserved as_slice
-from_slice is_some is_none is_empty split_at as_bytes from_utf8 reserve_exact try_from is_ok is_err""".split()
+from_slice from_residual is_some is_none is_empty split_at as_bytes from_utf8 reserve_exact try_from is_ok is_err""".split()
+OTHERS = re.compile(r"use (?!Rattle\.\w+\.proofs\.[^{]*\.(?:Goals|Given)\.\{)")
 RUN = re.compile(r"[A-Za-z][A-Za-z0-9_']*(?:-[A-Za-z0-9_']+)+")
 
 
@@ -54,7 +55,7 @@ def main():
                 text = open(path, encoding="utf-8").read()
                 lines = []
                 for line in text.split("\n"):
-                    if not line.startswith(("use ", "--")):
+                    if not line.startswith("--") and not OTHERS.match(line):
                         line = RUN.sub(lambda m: turned(m.group(0), known) if m.group(0) not in KEEP else m.group(0), line)
                     lines.append(line)
                 new = "\n".join(lines)
@@ -66,6 +67,8 @@ def main():
 # Lemmas of the library that have a dash where the source has a name with an underscore.
 KEEP = set()
 for line in os.popen("grep -rhoE '^use Rattle[^ ]*\\{[^}]*\\}' crates --include=*.antt").read().split("\n"):
+    if not OTHERS.match(line):
+        continue
     for word in re.findall(r"[^\s,{}]+", line.split("{", 1)[-1]):
         KEEP.add(word)
 main()

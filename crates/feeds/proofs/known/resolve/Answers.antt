@@ -16,7 +16,7 @@ returns-else-next-names c =
 pub loop-i-preserved : goal.loop-i-preserved
 loop-i-preserved c =
     known_later c.args.templates.now c.args.line.now c.args.names.now c.loop-i.i c.loop-i.invariant c.loop-i-test.true
-    _ (c.meaning-meant.ensures ∙ ap (meant_by c.args.templates.now) c.of.ensures) (sym c.in-default.ensures)
+    _ (c.meaning-meant.ensures ∙ ap (meant_by c.args.templates.now) c.of.ensures) (sym c.in_default.ensures)
 
 pub returns : goal.returns
 returns c = known_nowhere c.args.templates.now c.args.line.now c.args.names.now c.loop-i.i c.loop-i.invariant c.loop-i-test.false

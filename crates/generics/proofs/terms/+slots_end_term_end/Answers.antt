@@ -4,14 +4,14 @@ use Rattle.definitions.proofs.Ends.{term_grows, term_within, inside}
 use Rattle.generics.proofs.Slotted.{slots_none, slots_stop, slots_go, term_go, term_stop}
 use Rattle.generics.proofs.terms.+slots_end_term_end.Goals as goal
 
-pub slots_end-returns-in_err-next : goal.slots_end-returns-in_err-next
-slots_end-returns-in_err-next t c =
+pub slots_end-returns-in_err-next-in-len1-up : goal.slots_end-returns-in_err-next-in-len1-up
+slots_end-returns-in_err-next-in-len1-up t c =
     let some : 0 < length c.args.rows.now = search rules in
-    simp c.from-residual.ensures (slots_stop _ _ some (rw c.kind.ensures at c.in_err-next.ensures))
+    simp c.from_residual.ensures (slots_stop _ _ some (rw c.kind.ensures at c.in_err-next-in-len1-up.ensures))
 
 pub slots_end-slots_end-requires : goal.slots_end-slots_end-requires
 slots_end-slots_end-requires t c =
-    let h = c.in_ok-next.ensures in
+    let h = c.in_ok-next-in-len1-up.ensures in
     omega (arith, term_grows h, term_within h)
 
 pub slots_end-returns-in-empty : goal.slots_end-returns-in-empty
@@ -19,10 +19,10 @@ slots_end-returns-in-empty t c =
     let none : length c.args.rows.now ≡ 0 = search rules in
     slots_none _ _ none
 
-pub slots_end-returns-in_ok-next : goal.slots_end-returns-in_ok-next
-slots_end-returns-in_ok-next t c =
+pub slots_end-returns-in_ok-next-in-len1-up : goal.slots_end-returns-in_ok-next-in-len1-up
+slots_end-returns-in_ok-next-in-len1-up t c =
     let some : 0 < length c.args.rows.now = search rules in
-    slots_go _ _ _ _ _ _ _ some (rw c.kind.ensures at c.in_ok-next.ensures) c.slots_end.ensures
+    slots_go _ _ _ _ _ _ _ some (rw c.kind.ensures at c.in_ok-next-in-len1-up.ensures) c.slots_end.ensures
 
 pub term_end-returns-then-pos-marks : goal.term_end-returns-then-pos-marks
 term_end-returns-then-pos-marks t c = λ e h. omega (arith, inside h)

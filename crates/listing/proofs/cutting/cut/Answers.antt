@@ -2,12 +2,12 @@ use Rattle.std.proofs.Common.{◌≡◌, length, vec_items, sym, ap, ◌∙◌, 
 use Rattle.listing.proofs.Scans.{shallow}
 use Rattle.listing.proofs.Walked.{renamed, split, goes_on, stops, unclosed, finished, finished_at}
 use Rattle.listing.proofs.cutting.cut.Goals as goal
-use Rattle.listing.proofs.cutting.cut.Goals.{then-is-split+in-ok-push, else-is-split+in-Some}
+use Rattle.listing.proofs.cutting.cut.Goals.{then-is_split+in_ok-push, else-is_split+in-Some}
 
 pub returns-in_default : goal.returns-in_default
 returns-in_default c =
     record {
-      pieces = stops _ _ _ _ _ _ c.loop-i.invariant c.loop-i-test.true (sym c.if-is_split.ensures) (sym c.in-default.ensures);
+      pieces = stops _ _ _ _ _ _ c.loop-i.invariant c.loop-i-test.true (sym c.if-is_split.ensures) (sym c.in_default.ensures);
       places = tt;
       number = tt;
     }

@@ -7,15 +7,15 @@ use Rattle.listing.specs.Blanks.{blank}
 use Rattle.listing.specs.Arguments.{first_blank}
 use Rattle.listing.proofs.Listings.{Kept, written, never, blank_in_all, adjacent, broken}
 use Rattle.listing.proofs.lists.arguments.Goals as goal
-use Rattle.listing.proofs.lists.arguments.Goals.{After-blank-at, in-Some+then-not-is-blank+in-ok-push, in-Some+else-not-is-blank, in-default}
+use Rattle.listing.proofs.lists.arguments.Goals.{After-blank_at, in-Some+then-not-is_blank+in_ok-push, in-Some+else-not-is_blank, in_default}
 
 pub returns-in_err-spans : goal.returns-in_err-spans
 returns-in_err-spans c =
-    let p = err_from_is_err_and c.from-residual.result c.from-residual.ensures.1 in
+    let p = err_from_is_err_and c.from_residual.result c.from_residual.ensures.1 in
     rw (p.1, p.2) (broken _ (vec_items {X = Span} {Z = Global}) _ _ c.in_err-spans.ensures.pieces)
 
 -- what is left of the spans
-kept : (c : After-blank-at) → Kept c.args.text.now (vec_items c.in_ok-spans.spans) (vec_items c.match-pop.spans)
+kept : (c : After-blank_at) → Kept c.args.text.now (vec_items c.in_ok-spans.spans) (vec_items c.match-pop.spans)
 kept c =
     elim c.match-pop.branch [
       | in-Some+then-not-is_blank+in_ok-push w ↦
@@ -33,19 +33,19 @@ kept c =
             is = c.pop.ensures.items ∙ ap (λ o. vec_items c.pop.new.self ++ option_to_list o) w.in-Some.is;
             which = inr (ap blank (sym w.of.ensures) ∙ sym w.if-not-is_blank.ensures, ap vec_items w.spans-is);
           }
-      | in-default w ↦ absurd (omega (arith, c.in_ok-spans.ensures.number, w.in-default.ensures.cases.0))
+      | in_default w ↦ absurd (omega (arith, c.in_ok-spans.ensures.number, w.in_default.ensures.cases.0))
     ]
 
 pub returns-in-Some-blank_at : goal.returns-in-Some-blank_at
 returns-in-Some-blank_at c =
     let told = c.in_ok-spans.ensures in
-    let k = kept (goal.at.returns-in-Some-blank_at c).After-blank-at in
+    let k = kept (goal.at.returns-in-Some-blank_at c).After-blank_at in
     let at = ap (first_blank c.args.text.now) (sym c.as_slice.ensures.value) ∙ sym c.in-Some-blank_at.ensures in
     (never _ _ _ told.pieces.1 k _ at, inr (vec_items c.in_ok-spans.spans, told.pieces.1, told.places, blank_in_all _ _ _ told.pieces.1 k _ at, refl))
 
 pub returns-in-None : goal.returns-in-None
 returns-in-None c =
     let told = c.in_ok-spans.ensures in
-    let k = kept (goal.at.returns-in-None c).After-blank-at in
+    let k = kept (goal.at.returns-in-None c).After-blank_at in
     let none = ap (first_blank c.args.text.now) (sym c.as_slice.ensures.value) ∙ sym c.in-None.ensures in
     (written _ _ _ told.pieces.1 k none, adjacent _ _ _ told.pieces.1 k _ told.places)

@@ -3,7 +3,7 @@ use Rattle.listing.proofs.Paths.{deeper, on, stops, over}
 use Rattle.listing.proofs.shapes.is_path.Goals as goal
 
 pub returns-in_default : goal.returns-in_default
-returns-in_default c = stops _ _ _ c.loop-byte.invariant.1 c.loop-byte-test.true (sym c.in-default.ensures)
+returns-in_default c = stops _ _ _ c.loop-byte.invariant.1 c.loop-byte-test.true (sym c.in_default.ensures)
 
 pub loop-byte-preserved : goal.loop-byte-preserved
 loop-byte-preserved c =

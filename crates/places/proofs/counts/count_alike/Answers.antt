@@ -7,7 +7,7 @@ use Rattle.generics.specs.Lays.{no_row}
 use Rattle.places.proofs.Placed.{item_self}
 use Rattle.generics.proofs.Tallied.{counts, passes, counted}
 use Rattle.places.proofs.counts.count_alike.Goals as goal
-use Rattle.places.proofs.counts.count_alike.Goals.{then-is-alike, else-is-alike}
+use Rattle.places.proofs.counts.count_alike.Goals.{then-is_alike, else-is_alike}
 
 pub loop-row-preserved : goal.loop-row-preserved
 loop-row-preserved c =
@@ -18,8 +18,8 @@ loop-row-preserved c =
     let x = get_or rows i no_row in
     let h = c.loop-row-test.true in
     elim c.if-is_alike.branch [
-      | then-is-alike w ↦ counts test (λ (r : Row). r.kind) rows i c.loop-row.count _ x h (item_self rows i no_row h) c.loop-row.invariant (sym c.is_alike.ensures ∙ w.if-is_alike.true) w.count-is
-      | else-is-alike w ↦ passes test (λ (r : Row). r.kind) rows i c.loop-row.count _ x h (item_self rows i no_row h) c.loop-row.invariant (sym c.is_alike.ensures ∙ w.if-is_alike.false) w.count-is
+      | then-is_alike w ↦ counts test (λ (r : Row). r.kind) rows i c.loop-row.count _ x h (item_self rows i no_row h) c.loop-row.invariant (sym c.is_alike.ensures ∙ w.if-is_alike.true) w.count-is
+      | else-is_alike w ↦ passes test (λ (r : Row). r.kind) rows i c.loop-row.count _ x h (item_self rows i no_row h) c.loop-row.invariant (sym c.is_alike.ensures ∙ w.if-is_alike.false) w.count-is
     ]
 
 pub returns : goal.returns

@@ -4,7 +4,7 @@ use Rattle.generics.specs.Lays.{no_row, param_of}
 use Rattle.places.proofs.Placed.{item_self, spelled_some}
 use Rattle.generics.proofs.Tallied.{counts, passes, counted}
 use Rattle.places.proofs.counts.count_defaulted.Goals as goal
-use Rattle.places.proofs.counts.count_defaulted.Goals.{then-is-some, else-is-some}
+use Rattle.places.proofs.counts.count_defaulted.Goals.{then-is_some, else-is_some}
 
 pub overflow_add-count : goal.overflow_add-count
 overflow_add-count c = omega (arith, (c.loop-row.invariant []).1)
@@ -18,8 +18,8 @@ loop-row-preserved c = λ marks.
     let h = c.loop-row-test.true in
     let s = spelled_some marks x.default in
     elim c.if-is_some.branch [
-      | then-is-some w ↦ counts test (param_of marks) rows i c.loop-row.count _ x h (item_self rows i no_row h) (c.loop-row.invariant marks) (s ∙ sym c.is_some.ensures ∙ w.if-is_some.true) w.count-is
-      | else-is-some w ↦ passes test (param_of marks) rows i c.loop-row.count _ x h (item_self rows i no_row h) (c.loop-row.invariant marks) (s ∙ sym c.is_some.ensures ∙ w.if-is_some.false) w.count-is
+      | then-is_some w ↦ counts test (param_of marks) rows i c.loop-row.count _ x h (item_self rows i no_row h) (c.loop-row.invariant marks) (s ∙ sym c.is_some.ensures ∙ w.if-is_some.true) w.count-is
+      | else-is_some w ↦ passes test (param_of marks) rows i c.loop-row.count _ x h (item_self rows i no_row h) (c.loop-row.invariant marks) (s ∙ sym c.is_some.ensures ∙ w.if-is_some.false) w.count-is
     ]
 
 pub returns : goal.returns

@@ -57,7 +57,15 @@ pub invariant_of-self : goal.invariant_of-self
 invariant_of-self c =
     let cat = c.args.self.now in
     let k = (grown cat c.args.d c.requires.follows c.requires.fits _ _ _ _ _ _ _ c.len-first.ensures c.lay_rows.ensures.marks_len c.lay_term-body.ensures.span c.push_reserved.ensures.items c.lay_rows.ensures.rows c.lay_rows.ensures.marks c.lay_term-body.ensures.items).0 in
-    (k.within, (k.counted, (k.limited, (k.lawful, (omega (arith, cat.defs_room, c.push_reserved.ensures.capacity), (omega (arith, cat.rows_room, c.lay_rows.ensures.rows_capacity), (omega (arith, cat.marks_room, c.lay_rows.ensures.marks_capacity, c.lay_term-body.ensures.capacity), tt)))))))
+    record {
+      within = k.within;
+      counted = k.counted;
+      limited = k.limited;
+      lawful = k.lawful;
+      defs_room = omega (arith, cat.defs_room, c.push_reserved.ensures.capacity);
+      rows_room = omega (arith, cat.rows_room, c.lay_rows.ensures.rows_capacity);
+      marks_room = omega (arith, cat.marks_room, c.lay_rows.ensures.marks_capacity, c.lay_term-body.ensures.capacity);
+    }
 
 pub returns : goal.returns
 returns c =
