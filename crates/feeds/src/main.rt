@@ -11,6 +11,8 @@ mod known;
 mod paths;
 mod places;
 mod templates;
+#[cfg(test)]
+mod tests;
 mod told;
 mod words;
 
