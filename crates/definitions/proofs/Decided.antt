@@ -1,6 +1,5 @@
 -- The tests on a declaration decide the relations. Assumes nothing.
-use Rattle.std.proofs.Common.{◌≡◌, ℕ, zero, suc, ◌+◌, ◌-◌, ◌<◌, ◌≤◌, Bool, true, false, cond, not, ◌&&◌, ◌||◌, eqb, ltb, leb, ◌⊎◌, List, [], ◌∷◌, ◌++◌, map, length, get_or, take, is_some, Some, None, Decides, Option, sym, refl, ap, ◌∙◌, subst, inl, inr, append_assoc, append-nil, arith}
-use lib.ListN.{length-map}
+use Rattle.std.proofs.Common.{◌≡◌, ℕ, zero, suc, ◌+◌, ◌<◌, ◌≤◌, Bool, true, false, cond, not, ◌&&◌, ◌||◌, eqb, ltb, leb, ◌⊎◌, List, [], ◌∷◌, ◌++◌, length, get_or, take, is_some, Some, None, Decides, Option, sym, refl, ap, ◌∙◌, subst, inl, inr, append_assoc, append-nil, arith}
 use Rattle.std.proofs.lemmas.List.{get_or_past}
 use Rattle.std.proofs.lemmas.Bool.{and_parts, and_from, ltb-true, lt-ltb, leb-true, le-leb, eqb-true, eq-eqb, ne_eqb, cases_lt, cases_eq, cases_Bool, or_cases, or_left, or_right, both_ways, not-true, not_from_false}
 use Rattle.definitions.specs.declared.kinds.GenericDefKind.{GenericDefKind}
@@ -12,7 +11,7 @@ use Rattle.definitions.specs.declared.kinds.Kind.TheVariants.{«Type» as TypeKi
 use Rattle.definitions.specs.declared.kinds.Mark.{Mark}
 use Rattle.definitions.specs.Definitions.{Param, Definition, nothing, kind_of, kinds_of, row_kinds_of, definition_at, parent_rows, whole_rows, marks_in, default_marks, row_total, mark_total}
 use Rattle.definitions.specs.Rules.{may_have_parent, may_be_parent, rank, in_order, one_if, tally, ranked, selves_of, is_function, is_named, is_alias, parent_right, rows_right, default_right, defaults_right, default_reads, defaults_read, body_reads, terms_right, follows, has_room}
-use Rattle.definitions.specs.Terms.{Term, is_term, reads}
+use Rattle.definitions.specs.Terms.{is_term, reads}
 use Rattle.definitions.specs.Follows.{no_param, row_at, ParentFollows, RowsFollow, DefaultsFollow, OneTerm, TermsFollow, Fits, Rightful, TestsDecide}
 use Rattle.definitions.proofs.Scans.{is_term_lem, term_is}
 

@@ -1,10 +1,8 @@
 -- What the relations `Term` and `Slots` say of the positions they name. Assumes nothing.
-use Rattle.std.proofs.Common.{◌≡◌, ℕ, zero, suc, ◌+◌, ◌-◌, ◌<◌, ◌≤◌, Bool, true, false, cond, not, ◌&&◌, List, [], ◌∷◌, ◌++◌, map, length, get_or, take, drop, sym, refl, ap, ◌∙◌, subst, arith}
+use Rattle.std.proofs.Common.{◌≡◌, ℕ, ◌+◌, ◌<◌, ◌≤◌, true, List, length, sym, refl, ◌∙◌, arith}
 use Rattle.definitions.specs.declared.kinds.Kind.{Kind}
-use Rattle.definitions.specs.declared.kinds.Kind.TheVariants.{Lifetime}
 use Rattle.definitions.specs.declared.kinds.Mark.{Mark}
-use Rattle.definitions.specs.declared.kinds.Mark.TheVariants.{Ref}
-use Rattle.definitions.specs.Definitions.{Definition, kind_of}
+use Rattle.definitions.specs.Definitions.{Definition}
 use Rattle.definitions.specs.Terms.{Term, term, Slots, none, more, At, begins, slots_of}
 
 module _ {ds : List Definition} {whole : List Kind} {ms : List Mark} where

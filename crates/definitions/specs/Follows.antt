@@ -1,5 +1,5 @@
 -- The rules on definitions as relations between positions, and that the tests say the same. Assumes nothing.
-use Rattle.std.specs.Prelude.{◌≡◌, ℕ, ◌+◌, ◌<◌, ◌≤◌, Bool, true, false, List, ◌++◌, length, take, is_some, Some, None, Decides, Option, slice_index_or}
+use Rattle.std.specs.Prelude.{◌≡◌, ℕ, ◌+◌, ◌<◌, ◌≤◌, true, false, List, ◌++◌, length, take, is_some, Some, None, Decides, Option, slice_index_or}
 use Rattle.definitions.specs.declared.kinds.GenericDefKind.{GenericDefKind}
 use Rattle.definitions.specs.declared.kinds.GenericDefKind.TheVariants.{Trait}
 use Rattle.definitions.specs.declared.kinds.RowKind.TheVariants.{TraitSelf, ImplTrait}

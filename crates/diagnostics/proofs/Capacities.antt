@@ -1,8 +1,8 @@
 -- Told plus room stays as it is.
-use Rattle.std.proofs.Common.{◌≡◌, ℕ, zero, suc, ◌+◌, length, refl, ap, ◌∙◌, arith}
+use Rattle.std.proofs.Common.{◌≡◌, ℕ, zero, suc, length, refl, ap, ◌∙◌, arith}
 use Rattle.std.proofs.lemmas.List.{length_push}
 use Rattle.diagnostics.specs.declared.reports.PathLoweringDiagnostic.{PathLoweringDiagnostic}
-use Rattle.diagnostics.specs.Tells.{View, Told, Cleared, Leads, here, tells, clears, capacity_of, Capacity-stays}
+use Rattle.diagnostics.specs.Tells.{View, Told, Cleared, here, tells, clears, capacity_of, Capacity-stays}
 
 told_stays : (r : PathLoweringDiagnostic) (v w : View) (n : ℕ) → v.room ≡ n → Told r v w → capacity_of w ≡ capacity_of v
 told_stays r v w zero e t =

@@ -1,14 +1,13 @@
 -- A catalogue's lists with one definition more. Assumes nothing.
-use Rattle.std.proofs.Common.{◌≡◌, ℕ, zero, suc, ◌+◌, ◌-◌, ◌<◌, ◌≤◌, Bool, true, false, ◌&&◌, ltb, leb, ◌⊎◌, List, [], ◌∷◌, ◌++◌, map, length, get_or, take, drop, Some, None, Option, sym, refl, ap, ◌∙◌, subst, inl, inr, append_assoc, append-nil, arith, length-append, length-drop}
+use Rattle.std.proofs.Common.{◌≡◌, ℕ, zero, suc, ◌+◌, ◌<◌, ◌≤◌, true, ltb, leb, List, [], ◌∷◌, ◌++◌, map, length, get_or, take, drop, Some, None, Option, sym, refl, ap, ◌∙◌, inl, inr, append_assoc, append-nil, arith, length-append, length-drop}
 use mathlib.Core.List.{map-append}
-use lib.ListN.{length-map}
 use Rattle.std.proofs.lemmas.List.{take-map, drop-map, take-append-le, drop-append-le, drop_at, take_all, take_at, get_or_append_left, get_or_push, length_push}
 use Rattle.std.proofs.lemmas.Bool.{and_parts, leb-true, ltb-true, cases_lt}
 use Rattle.definitions.specs.declared.kinds.Mark.{Mark}
 use Rattle.generics.specs.declared.stored.Span.{Span}
 use Rattle.generics.specs.declared.stored.Row.{Row}
 use Rattle.generics.specs.declared.stored.Def.{Def}
-use Rattle.definitions.specs.Definitions.{Param, Definition, definition_at, nothing, marks_in, default_marks, row_total, mark_total}
+use Rattle.definitions.specs.Definitions.{Param, Definition, nothing, marks_in, default_marks, row_total, mark_total}
 use Rattle.generics.specs.Laid.{marks_of, span_at, laid, flat}
 use Rattle.generics.specs.Lays.{cut, spelled, param_of, definition_of, definitions, no_row, no_def, end_of, Within, Counted}
 use Rattle.definitions.specs.Rules.{follows, has_room, Lawful, Limited}

@@ -1,9 +1,7 @@
 -- The ends of terms and slots, by the rows as they are held. Assumes nothing.
-use Rattle.std.proofs.Common.{◌≡◌, ℕ, zero, suc, ◌+◌, ◌-◌, ◌<◌, ◌≤◌, Bool, true, false, cond, not, ◌&&◌, List, [], ◌∷◌, ◌++◌, map, length, get_or, take, drop, Some, None, Option, sym, refl, ap, ◌∙◌, subst, arith, take_all, MatchOption}
+use Rattle.std.proofs.Common.{◌≡◌, ℕ, ◌+◌, ◌-◌, ◌<◌, Bool, true, false, List, [], ◌∷◌, length, get_or, take, drop, Some, None, Option, arith, take_all, MatchOption}
 use Rattle.definitions.specs.declared.kinds.Kind.{Kind}
-use Rattle.definitions.specs.declared.kinds.Kind.TheVariants.{Lifetime}
 use Rattle.definitions.specs.declared.kinds.Mark.{Mark}
-use Rattle.definitions.specs.declared.kinds.Mark.TheVariants.{Ref}
 use Rattle.generics.specs.declared.stored.Row.{Row}
 use Rattle.definitions.specs.Definitions.{Definition, kind_of}
 use Rattle.generics.specs.Lays.{no_row}

@@ -1,5 +1,5 @@
 -- What a catalogue holds, by its definitions. Assumes nothing.
-use Rattle.std.specs.Prelude.{◌≡◌, ℕ, List, ◌++◌, map, vec_items, slice_index_or}
+use Rattle.std.specs.Prelude.{ℕ, List, ◌++◌, map, vec_items, slice_index_or}
 use Rattle.definitions.specs.declared.kinds.Kind.{Kind}
 use Rattle.definitions.specs.declared.kinds.GenericParam.{GenericParam}
 use Rattle.definitions.specs.declared.kinds.RowKind.{RowKind}

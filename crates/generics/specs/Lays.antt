@@ -1,5 +1,5 @@
 -- What the catalogue's lists hold: the definitions that its parts spell. Assumes nothing.
-use Rattle.std.specs.Prelude.{◌≡◌, ℕ, ◌+◌, ◌<◌, ◌≤◌, List, [], ◌∷◌, ◌++◌, map, length, take, drop, Some, None, Option, slice_index_or}
+use Rattle.std.specs.Prelude.{◌≡◌, ℕ, ◌+◌, ◌<◌, ◌≤◌, List, map, length, take, drop, Some, None, Option, slice_index_or}
 use Rattle.std.specs.Option.{option_map}
 use Rattle.definitions.specs.declared.kinds.Mark.{Mark}
 use Rattle.definitions.specs.declared.kinds.GenericParam.{GenericParam}

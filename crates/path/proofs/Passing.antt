@@ -1,10 +1,10 @@
 -- What is known of a path that passes.
-use Rattle.std.proofs.Common.{◌≡◌, ℕ, ◌-◌, ◌≤◌, Bool, true, false, cond, ltb, List, ◌++◌, take, Option, refl, arith, ltb-false}
+use Rattle.std.proofs.Common.{◌≡◌, ℕ, ◌-◌, ◌≤◌, Bool, true, false, cond, ltb, List, take, Option, refl, arith, ltb-false}
 use Rattle.diagnostics.specs.Tells.{View, ToldAll}
 use Rattle.diagnostics.proofs.Tellings.{told_then}
 use Rattle.path.specs.declared.segments.PathSegment.{PathSegment}
 use Rattle.path.specs.declared.segments.Resolution.{Resolution}
-use Rattle.path.specs.Checks.{CheckAnswer, passes, refused, bad_index, check_rule}
+use Rattle.path.specs.Checks.{passes, refused, bad_index, check_rule}
 use Rattle.path.specs.Prohibits.{reason_of, resolved_segment, resolved_of, list_at, report_on, reports_on, prohibited}
 
 pub record Passing (count : ℕ) (remaining : Option ℕ) (room s : ℕ) : Type 0 where

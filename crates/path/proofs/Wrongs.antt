@@ -1,5 +1,5 @@
 -- The reports about a path are exactly those of what is wrong with it.
-use Rattle.std.proofs.Common.{◌≡◌, ℕ, zero, suc, ◌+◌, ◌<◌, ◌≤◌, true, false, ◌⊎◌, List, [], ◌∷◌, ◌++◌, length, get_or, take, is_some, Some, None, Option, sym, refl, ap, ◌∙◌, inl, inr, arith, length-take}
+use Rattle.std.proofs.Common.{◌≡◌, ℕ, zero, suc, ◌+◌, ◌<◌, ◌≤◌, true, ◌⊎◌, List, [], ◌∷◌, ◌++◌, length, take, is_some, Some, None, Option, sym, refl, inl, inr, arith, length-take}
 use Rattle.std.proofs.lemmas.List.{append_assoc}
 use Rattle.diagnostics.specs.declared.reports.GenericArgsProhibitedReason.{GenericArgsProhibitedReason}
 use Rattle.diagnostics.specs.declared.reports.GenericArgsProhibitedReason.TheVariants.{Module}
@@ -8,7 +8,7 @@ use Rattle.diagnostics.specs.declared.reports.PathLoweringDiagnostic.TheVariants
 use Rattle.path.specs.declared.segments.GenericArgs.{GenericArgs}
 use Rattle.path.specs.declared.segments.PathSegment.{PathSegment}
 use Rattle.path.specs.declared.segments.Resolution.{Resolution}
-use Rattle.path.specs.Prohibits.{reason_of, resolved_of, list_at, report_on, reports_on, prohibited, Wrong, Among, Upward, Exactly}
+use Rattle.path.specs.Prohibits.{reason_of, resolved_of, list_at, report_on, reports_on, prohibited, Among, Upward, Exactly}
 
 apart : (d : PathLoweringDiagnostic) (xs ys : List PathLoweringDiagnostic) → Among d (xs ++ ys) → Among d xs ⊎ Among d ys
 apart d [] ys a = inr a

@@ -1,8 +1,7 @@
 -- What stands at a place. Assumes nothing.
-use Rattle.std.proofs.Common.{◌≡◌, ℕ, zero, suc, ◌+◌, ◌-◌, ◌<◌, ◌≤◌, Bool, true, leb, ◌⊎◌, List, [], ◌∷◌, ◌++◌, map, length, get_or, take, is_some, Some, None, Option, sym, refl, ap, ◌∙◌, inl, inr, arith, length-append}
+use Rattle.std.proofs.Common.{◌≡◌, ℕ, zero, suc, ◌+◌, ◌-◌, ◌<◌, ◌≤◌, leb, List, [], ◌∷◌, ◌++◌, map, length, get_or, take, is_some, Some, None, Option, sym, refl, ap, ◌∙◌, inl, inr, arith, length-append}
 use mathlib.Core.List.{map-map}
 use lib.ListN.{length-map}
-use Rattle.std.specs.Option.{option_map}
 use Rattle.std.proofs.lemmas.List.{get_or_past, get_or_default}
 use Rattle.std.proofs.lemmas.Bool.{cases_lt, and_parts, leb-true}
 use Rattle.generics.specs.declared.catalogue.Catalogue.{Catalogue}
@@ -14,7 +13,7 @@ use Rattle.definitions.specs.Definitions.{Param, Definition, row_kinds_of, defin
 use Rattle.generics.specs.Held.{held, kinds_held}
 use Rattle.generics.specs.Lays.{param_of, spelled}
 use Rattle.places.specs.Places.{nth, param_at}
-use Rattle.definitions.specs.Rules.{follows, rows_right, parent_right, Lawful}
+use Rattle.definitions.specs.Rules.{rows_right, parent_right, Lawful}
 use Rattle.generics.proofs.Found.{first_of, second_of, past_both}
 
 pub nth_at : {X : Type 0} (xs : List X) (i : ℕ) (d : X) → i < length xs → nth xs i ≡ Some (get_or xs i d)

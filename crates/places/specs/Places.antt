@@ -1,14 +1,11 @@
 -- What a reader of the catalogue learns of a definition and of its places. Assumes nothing.
-use Rattle.std.specs.Prelude.{ℕ, zero, suc, ◌+◌, ◌-◌, Bool, true, false, cond, List, [], ◌∷◌, ◌++◌, map, length, take, is_some, Some, None, Option, nat_lt}
+use Rattle.std.specs.Prelude.{ℕ, zero, suc, ◌-◌, Bool, true, false, cond, List, [], ◌∷◌, length, take, is_some, Some, None, Option, nat_lt}
 use Rattle.std.specs.Option.{option_map}
-use Rattle.definitions.specs.declared.kinds.GenericDefKind.{GenericDefKind}
 use Rattle.definitions.specs.declared.kinds.GenericParamId.{GenericParamId}
-use Rattle.definitions.specs.declared.kinds.Kind.{Kind}
 use Rattle.definitions.specs.declared.kinds.Mark.{Mark}
 use Rattle.definitions.specs.declared.kinds.RowKind.{RowKind}
-use Rattle.definitions.specs.declared.kinds.RowKind.TheVariants.{TraitSelf, Lifetime as LifetimeRow, «Type» as TypeRow, Const as ConstRow, ImplTrait}
 use Rattle.places.specs.declared.view.Provenance.{Provenance}
-use Rattle.definitions.specs.Definitions.{Param, Definition, is_lifetime, definition_at, row_kinds_of, kind_of, parent_rows, whole_rows}
+use Rattle.definitions.specs.Definitions.{Param, Definition, is_lifetime, definition_at, row_kinds_of, parent_rows, whole_rows}
 use Rattle.definitions.specs.Rules.{ranked, tally}
 
 -- the element at a position, if there is one

@@ -1,9 +1,9 @@
-use Rattle.std.proofs.Common.{◌≡◌, ◌+◌, ◌<◌, ◌≤◌, length, get_or, drop, sym, ap, ◌∙◌}
+use Rattle.std.proofs.Common.{◌+◌, drop, sym, ap, ◌∙◌}
 use Rattle.std.proofs.lemmas.List.{at_drop_all}
 use Rattle.generics.specs.Lays.{params_asked}
 use Rattle.definitions.specs.Definitions.{default_marks}
 use Rattle.definitions.specs.Rules.{lessen}
-use Rattle.generics.proofs.Walked.{no_param, marks_more, lessen_all, lessen_more, lessen_none}
+use Rattle.generics.proofs.Walked.{marks_more, lessen_all, lessen_more, lessen_none}
 use Rattle.generics.proofs.rules.left_by_defaults.Goals as goal
 
 pub returns-then-free-marks : goal.returns-then-free-marks

@@ -1,8 +1,8 @@
-use Rattle.std.proofs.Common.{◌≡◌, Bool, true, false, ◌||◌, eqb, map, length, sym, refl, ap, ◌∙◌, arith}
+use Rattle.std.proofs.Common.{◌≡◌, true, ◌||◌, eqb, map, length, sym, ap, ◌∙◌, arith}
 use lib.ListN.{length-map}
-use Rattle.std.proofs.lemmas.Bool.{le-leb, lt-leb, eq-eqb, ne_eqb, and_left, or_left}
+use Rattle.std.proofs.lemmas.Bool.{le-leb, eq-eqb, ne_eqb, or_left}
 use Rattle.std.proofs.lemmas.Bool.Decides.{nat_tests}
-use Rattle.generics.specs.Lays.{param_asked, params_asked}
+use Rattle.generics.specs.Lays.{param_asked}
 use Rattle.definitions.specs.Rules.{ranked, selves_of, is_function}
 use Rattle.definitions.specs.declared.kinds.GenericParam.{GenericParam}
 use Rattle.definitions.specs.declared.kinds.RowKind.{RowKind}

@@ -1,8 +1,8 @@
-use Rattle.std.proofs.Common.{◌≡◌, ◌+◌, ◌<◌, ◌≤◌, length, get_or, drop, sym, ap, ◌∙◌, arith}
+use Rattle.std.proofs.Common.{◌+◌, drop, sym, ap, ◌∙◌, arith}
 use Rattle.std.proofs.lemmas.List.{at_drop_all}
 use Rattle.generics.specs.Lays.{params_asked}
-use Rattle.definitions.specs.Rules.{in_order, rank}
-use Rattle.generics.proofs.Walked.{no_param, order_stops, order_goes}
+use Rattle.definitions.specs.Rules.{in_order}
+use Rattle.generics.proofs.Walked.{order_stops, order_goes}
 use Rattle.generics.proofs.rules.rows_in_order.Goals as goal
 
 pub returns-then-rank-low : goal.returns-then-rank-low

@@ -1,5 +1,4 @@
-use Rattle.std.proofs.Common.{◌≡◌, ℕ, ◌<◌, length, sym, refl, ap, ◌∙◌, arith, rules}
-use Rattle.definitions.specs.Terms.{Term}
+use Rattle.std.proofs.Common.{◌≡◌, ◌<◌, length, sym, refl, arith, rules}
 use Rattle.definitions.proofs.Ends.{term_grows, term_within, inside}
 use Rattle.generics.proofs.Slotted.{slots_none, slots_stop, slots_go, term_go, term_stop}
 use Rattle.generics.proofs.terms.+slots_end_term_end.Goals as goal

@@ -1,7 +1,7 @@
-use Rattle.std.proofs.Common.{◌≡◌, [], None, ap, ◌∙◌, arith}
+use Rattle.std.proofs.Common.{◌≡◌, None, ap}
 use Rattle.std.proofs.lemmas.List.{get_or_past}
 use Rattle.diagnostics.proofs.Tellings.{told_none}
-use Rattle.path.specs.Prohibits.{list_at, report_on, reason_of}
+use Rattle.path.specs.Prohibits.{list_at}
 use Rattle.path.proofs.prohibited.tell_resolved.Goals as goal
 
 pub returns-else-resolved-segments : goal.returns-else-resolved-segments

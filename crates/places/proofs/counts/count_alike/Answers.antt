@@ -1,4 +1,4 @@
-use Rattle.std.proofs.Common.{◌≡◌, Bool, true, false, get_or, sym, refl, ap, ◌∙◌}
+use Rattle.std.proofs.Common.{Bool, get_or, sym, ◌∙◌}
 use Rattle.definitions.specs.declared.kinds.RowKind.{RowKind}
 use Rattle.generics.specs.declared.stored.Row.{Row}
 use Rattle.places.specs.Places.{same_bool}

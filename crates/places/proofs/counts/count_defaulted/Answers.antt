@@ -1,4 +1,4 @@
-use Rattle.std.proofs.Common.{◌≡◌, Bool, true, false, List, [], get_or, is_some, sym, refl, ap, ◌∙◌, arith}
+use Rattle.std.proofs.Common.{Bool, [], get_or, is_some, sym, ◌∙◌, arith}
 use Rattle.definitions.specs.Definitions.{Param}
 use Rattle.generics.specs.Lays.{no_row, param_of}
 use Rattle.places.proofs.Placed.{item_self, spelled_some}

@@ -1,4 +1,4 @@
-use Rattle.std.proofs.Common.{◌≡◌, ℕ, ◌+◌, true, List, [], ◌∷◌, ◌++◌, length, vec_items, vec_len, Option, sym, refl, ap, ◌∙◌, arith}
+use Rattle.std.proofs.Common.{◌≡◌, ℕ, ◌+◌, true, List, [], ◌∷◌, ◌++◌, length, vec_items, vec_len, Option, sym, ap, ◌∙◌, arith}
 use Rattle.generics.specs.declared.catalogue.Catalogue.{Catalogue}
 use Rattle.definitions.specs.declared.kinds.Declaration.{Declaration}
 use Rattle.definitions.specs.declared.kinds.Mark.{Mark}
@@ -6,12 +6,12 @@ use Rattle.generics.specs.declared.stored.Def.{Def}
 use Rattle.generics.specs.declared.stored.Row.{Row}
 use Rattle.generics.specs.declared.stored.Span.{Span}
 use Rattle.definitions.specs.Rules.{follows, has_room}
-use Rattle.definitions.specs.Definitions.{default_marks, marks_in}
+use Rattle.definitions.specs.Definitions.{default_marks}
 use Rattle.generics.specs.Held.{held}
 use Rattle.generics.specs.Laid.{span_at, laid, flat, marks_of}
 use Rattle.generics.specs.Lays.{asked, definitions}
 use Rattle.generics.proofs.Appended.{Kept, kept_more, new_def}
-use Rattle.generics.proofs.Sizes.{Roomy, roomy, defs_long, asked_long}
+use Rattle.generics.proofs.Sizes.{roomy, defs_long, asked_long}
 use Rattle.generics.proofs.catalogue.Catalogue.append.Goals as goal
 
 pub overflow_cast-number : goal.overflow_cast-number

@@ -1,6 +1,5 @@
 use Rattle.std.proofs.Common.{◌≡◌, Bool, true, false, Decides, sym, rules}
 use Rattle.std.proofs.lemmas.Bool.{both_ways}
-use Rattle.definitions.specs.Follows.{TestsDecide}
 use Rattle.generics.specs.Held.{held}
 use Rattle.generics.specs.Lays.{asked}
 use Rattle.definitions.proofs.Decided.{tests_decide}

@@ -1,4 +1,4 @@
-use Rattle.std.proofs.Common.{◌≡◌, ◌<◌, ◌≤◌, length, get_or, vec_items, sym, refl, ap, ◌∙◌, arith, rules}
+use Rattle.std.proofs.Common.{◌≡◌, vec_items, sym, ap, ◌∙◌, rules}
 use Rattle.std.proofs.lemmas.List.{get_or_past, get_or_read_under}
 use Rattle.generics.specs.declared.stored.Def.{Def}
 use Rattle.generics.specs.declared.catalogue.Catalogue.{Catalogue}

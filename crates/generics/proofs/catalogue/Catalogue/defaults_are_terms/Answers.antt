@@ -1,11 +1,8 @@
-use Rattle.std.proofs.Common.{◌≡◌, ℕ, ◌+◌, ◌-◌, Bool, true, false, List, ◌++◌, length, get_or, take, drop, sym, refl, ap, ◌∙◌, append-nil, arith}
+use Rattle.std.proofs.Common.{◌≡◌, ◌-◌, ◌++◌, get_or, take, sym, ap, ◌∙◌, append-nil, arith}
 use Rattle.std.proofs.lemmas.List.{at_drop_all}
-use Rattle.std.specs.Option.{option_map}
-use Rattle.definitions.specs.Definitions.{kind_of}
 use Rattle.generics.specs.Held.{held, row_kinds, asked_kinds}
 use Rattle.generics.specs.Lays.{param_asked, params_asked}
 use Rattle.definitions.specs.Rules.{default_reads, defaults_read}
-use Rattle.definitions.specs.Terms.{is_term}
 use Rattle.generics.proofs.Walked.{no_param, reads_stop, reads_go}
 use Rattle.generics.proofs.catalogue.Catalogue.defaults_are_terms.Goals as goal
 

@@ -1,13 +1,7 @@
-use Rattle.std.proofs.Common.{◌≡◌, ℕ, ◌+◌, ◌-◌, ◌<◌, ◌≤◌, Bool, true, false, ◌&&◌, ltb, leb, length, vec_items, vec_len, sym, refl, ap, ◌∙◌, arith}
-use lib.ListN.{length-map}
-use Rattle.std.proofs.lemmas.Bool.Decides.{nat_tests}
-use Rattle.std.proofs.lemmas.Bool.{lt-ltb, le-ltb, le-leb, lt-leb, and_left, and_right}
-use Rattle.generics.specs.declared.catalogue.Catalogue.{Catalogue}
-use Rattle.definitions.specs.declared.kinds.Declaration.{Declaration}
+use Rattle.std.proofs.Common.{◌≡◌, ◌+◌, ◌-◌, leb, length, ap, ◌∙◌, arith}
 use Rattle.definitions.specs.Definitions.{row_total, mark_total, marks_in, default_marks}
 use Rattle.generics.specs.Held.{held}
-use Rattle.generics.specs.Lays.{definition_of, param_asked, params_asked, asked}
-use Rattle.definitions.specs.Rules.{has_room}
+use Rattle.generics.specs.Lays.{asked}
 use Rattle.generics.proofs.Sizes.{defs_long, rows_long, marks_long, asked_long}
 use Rattle.generics.proofs.Walked.{lessen_left, room_moved, defs_full, rows_full, marks_decide}
 use Rattle.generics.proofs.catalogue.Catalogue.has_room.Goals as goal

@@ -1,9 +1,7 @@
-use Rattle.std.proofs.Common.{◌&&◌, length, sym, ap, ◌∙◌, rules}
+use Rattle.std.proofs.Common.{length, rules}
 use Rattle.generics.proofs.catalogue.Catalogue.is_term.Goals as goal
 use Rattle.std.proofs.lemmas.Bool.{le-leb}
 use Rattle.definitions.proofs.Scans.{ends_at, ends_nowhere, reads_terms}
-use Rattle.generics.specs.Held.{held, scope_kinds}
-use Rattle.definitions.specs.Terms.{reads}
 
 pub returns-in-Some : goal.returns-in-Some
 returns-in-Some c = record { relation = reads_terms; test = rw (le-leb (length c.args.marks.now) 32 c.if-marks-gt32.false) (ends_at _ _ _ _ _ c.in-Some.ensures) }

@@ -1,4 +1,4 @@
-use Rattle.std.proofs.Common.{◌≡◌, ◌&&◌, sym, refl, ap, ◌∙◌}
+use Rattle.std.proofs.Common.{◌&&◌, sym, refl, ap, ◌∙◌}
 use Rattle.generics.specs.Held.{held, row_kinds, scope_kinds}
 use Rattle.generics.specs.Lays.{asked}
 use Rattle.definitions.specs.Rules.{body_reads}

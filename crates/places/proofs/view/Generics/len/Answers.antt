@@ -1,4 +1,4 @@
-use Rattle.std.proofs.Common.{◌≡◌, sym, ap, ◌∙◌, arith}
+use Rattle.std.proofs.Common.{arith}
 use Rattle.definitions.specs.Definitions.{definition_at}
 use Rattle.generics.specs.Held.{held}
 use Rattle.places.proofs.Placed.{few_own, few_before, whole_long}

@@ -1,6 +1,6 @@
-use Rattle.std.proofs.Common.{◌≡◌, length, vec_items, sym, ap, ◌∙◌}
+use Rattle.std.proofs.Common.{length, vec_items, sym, ap, ◌∙◌}
 use lib.ListN.{length-map}
-use Rattle.definitions.specs.Definitions.{Definition, parent_rows}
+use Rattle.definitions.specs.Definitions.{parent_rows}
 use Rattle.generics.specs.Held.{held}
 use Rattle.generics.specs.Lays.{param_of}
 use Rattle.places.proofs.view.Generics.len_parent.Goals as goal

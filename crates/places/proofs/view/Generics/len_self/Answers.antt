@@ -1,4 +1,4 @@
-use Rattle.std.proofs.Common.{◌≡◌, length, vec_items, sym, ap, ◌∙◌}
+use Rattle.std.proofs.Common.{length, vec_items, sym, ap, ◌∙◌}
 use lib.ListN.{length-map}
 use Rattle.generics.specs.Lays.{param_of}
 use Rattle.places.proofs.view.Generics.len_self.Goals as goal

@@ -1,8 +1,8 @@
-use Rattle.std.proofs.Common.{◌≡◌, ℕ, ◌-◌, ◌<◌, ◌≤◌, ltb, length, Some, None, vec_items, sym, refl, ap, ◌∙◌, arith}
+use Rattle.std.proofs.Common.{◌-◌, ◌<◌, ◌≤◌, ltb, length, vec_items, sym, ap, ◌∙◌, arith}
 use Rattle.std.proofs.lemmas.Bool.{lt-ltb, le-ltb, cond-true, cond-false}
 use Rattle.definitions.specs.Definitions.{definition_at, row_kinds_of}
 use Rattle.generics.specs.Held.{held}
-use Rattle.places.specs.Places.{name_in, name_from, name_at}
+use Rattle.places.specs.Places.{name_in, name_from}
 use Rattle.places.proofs.Placed.{few_own, kinds_meant, long_meant}
 use Rattle.places.proofs.view.Generics.name_at.Goals as goal
 

@@ -1,4 +1,4 @@
-use Rattle.std.proofs.Common.{◌≡◌, ℕ, vec_items, sym, refl, ap, ◌∙◌}
+use Rattle.std.proofs.Common.{◌≡◌, ℕ, vec_items, ap, ◌∙◌}
 use Rattle.places.specs.declared.view.Provenance.{Provenance}
 use Rattle.definitions.specs.Rules.{ranked}
 use Rattle.places.specs.Places.{defaulted}

@@ -1,9 +1,6 @@
-use Rattle.std.proofs.Common.{◌≡◌, vec_items, sym, ap, ◌∙◌, arith}
-use Rattle.generics.specs.declared.stored.Row.{Row}
-use Rattle.definitions.specs.Definitions.{Param, Definition}
+use Rattle.std.proofs.Common.{vec_items, ◌∙◌}
 use Rattle.generics.specs.Held.{held}
 use Rattle.generics.specs.Lays.{no_row, param_of}
-use Rattle.places.specs.Places.{param_at}
 use Rattle.places.proofs.Placed.{nth_first, nth_second, nth_neither, place_of}
 use Rattle.places.proofs.view.Generics.row_held.Goals as goal
 
