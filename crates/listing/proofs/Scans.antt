@@ -1,5 +1,5 @@
 -- One byte of a scan. Assumes nothing.
-use Rattle.std.proofs.Common.{◌≡◌, ℕ, ◌+◌, ◌-◌, ◌≤◌, Bool, true, false, cond, eqb, Some, None, Option, refl, arith}
+use Rattle.std.proofs.Common.{◌≡◌, ℕ, ◌+◌, ◌-◌, ◌≤◌, Bool, true, false, cond, eqb, Some, None, Option, arith}
 use Rattle.listing.specs.declared.scanning.Mode.{Mode}
 use Rattle.listing.specs.declared.scanning.Role.{Role}
 use Rattle.listing.specs.declared.scanning.Role.TheVariants.{Opens, Closes, Inner, Wrong}

@@ -1,9 +1,8 @@
 -- What one turn of `cut` keeps. Assumes nothing.
-use Rattle.std.proofs.Common.{◌≡◌, ℕ, ◌+◌, ◌-◌, ◌<◌, ◌≤◌, Bool, true, false, cond, List, [], ◌∷◌, ◌++◌, map, length, get_or, take, drop, Some, None, Option, sym, refl, ap, ◌∙◌, subst, append_assoc, append-nil, arith}
-use Rattle.std.proofs.lemmas.List.{at_drop_more, at_drop_all, map_push, take_more, get_or-drop, length-drop, length-map, length-append}
+use Rattle.std.proofs.Common.{◌≡◌, ℕ, ◌+◌, ◌-◌, ◌<◌, ◌≤◌, true, false, List, [], ◌∷◌, ◌++◌, map, length, get_or, take, drop, Some, None, sym, refl, ap, ◌∙◌, subst, append_assoc, append-nil, arith}
+use Rattle.std.proofs.lemmas.List.{at_drop_more, at_drop_all, map_push, take_more, get_or-drop, length-drop, length-map}
 use Rattle.listing.specs.declared.scanning.Scan.{Scan}
 use Rattle.listing.specs.declared.spans.Span.{Span}
-use Rattle.listing.specs.declared.faults.Fault.{Fault}
 use Rattle.listing.specs.declared.faults.Reason.TheVariants.{Unopened, Unclosed}
 use Rattle.listing.specs.Nesting.{after, closed, start}
 use Rattle.listing.specs.Parts.{part}

@@ -1,17 +1,15 @@
 -- When an inferred entry is a default. Assumes nothing.
-use Rattle.std.proofs.Common.{◌≡◌, ℕ, Bool, true, false, cond, not, ◌&&◌, ltb, List, is_some, Some, None, Option, sym, refl, ap, ◌∙◌, arith}
+use Rattle.std.proofs.Common.{◌≡◌, ℕ, Bool, true, false, cond, not, ◌&&◌, ltb, List, is_some, Some, None, Option, refl, ap, ◌∙◌, arith}
 use Rattle.std.specs.Option.{option_map}
 use Rattle.std.proofs.lemmas.Bool.{and_from, and_parts, and_right, lt-ltb, ltb-true, not_from_false, not-true}
-use Rattle.definitions.specs.declared.kinds.Kind.{Kind}
 use Rattle.definitions.specs.declared.kinds.Mark.{Mark}
 use Rattle.definitions.specs.declared.kinds.RowKind.{RowKind}
-use Rattle.definitions.specs.Definitions.{Param, Definition}
+use Rattle.definitions.specs.Definitions.{Param}
 use Rattle.generics.specs.declared.catalogue.Catalogue.{Catalogue}
 use Rattle.generics.specs.Held.{held}
 use Rattle.places.specs.declared.view.Generics.{Generics}
 use Rattle.places.specs.Places.{default_of, param_at}
 use Rattle.places.specs.Views.{among}
-use Rattle.lowerer.specs.declared.meaning.ParamPlace.{ParamPlace}
 use Rattle.lowerer.specs.declared.meaning.Source.{Source}
 use Rattle.lowerer.specs.declared.meaning.Source.TheVariants.{Default, Unknown}
 use Rattle.lowerer.specs.Meanings.{at_row, default_for, default_if, fills, inferred_as, kinds_before, row_kind_at, Defaulted, DefaultExactly}

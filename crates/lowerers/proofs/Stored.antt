@@ -1,7 +1,6 @@
 -- What was written into a store, and parts of it. Assumes nothing.
-use Rattle.std.proofs.Common.{◌≡◌, ℕ, ◌+◌, ◌-◌, ◌/◌, ◌<◌, ◌≤◌, min, Bool, true, false, cond, ltb, leb, ◌⊎◌, List, [], ◌∷◌, ◌++◌, length, take, drop, IfSome, Some, None, Option, sym, refl, ap, ◌∙◌, subst, inl, inr, append_assoc, arith, length-append, length-drop, length-take}
+use Rattle.std.proofs.Common.{◌≡◌, ℕ, ◌+◌, ◌-◌, ◌/◌, ◌<◌, ◌≤◌, min, Bool, true, false, cond, ltb, leb, List, ◌++◌, length, take, drop, IfSome, Some, None, Option, sym, refl, ap, ◌∙◌, subst, inl, inr, append_assoc, arith, length-append, length-drop, length-take}
 use lib.ListN.{length-map}
-use Rattle.std.specs.Option.{option_map}
 use Rattle.std.proofs.lemmas.List.{drop_at, drop-take, length-take-le, take_all, take-append-le, take_at, take-take}
 use Rattle.std.proofs.lemmas.Bool.{cases_lt, cond-false, cond-true, le-leb, leb-true, lt-leb, lt-ltb}
 use Rattle.pieces.specs.declared.Piece.{Piece}
@@ -15,7 +14,7 @@ use Rattle.pieces.proofs.Laying.{no_refs}
 use Rattle.lowerers.specs.declared.terms.Part.{Part}
 use Rattle.lowerers.specs.declared.terms.TermArg.{TermArg}
 use Rattle.lowerers.specs.declared.terms.Terms.{Terms}
-use Rattle.lowerers.specs.Stores.{part_of, written, written_in, Keeps, Writing}
+use Rattle.lowerers.specs.Stores.{part_of, written, written_in, Writing}
 
 -- a part of a front is that part of the whole
 inner : {X : Type 0} (xs ys : List X) (n m k : ℕ) → take k xs ≡ take k ys → n + m ≤ k → take m (drop n xs) ≡ take m (drop n ys)

@@ -1,7 +1,7 @@
 -- No two entries have one variable. Assumes nothing.
-use Rattle.std.proofs.Common.{◌≡◌, ℕ, zero, suc, ◌+◌, ◌<◌, ◌≤◌, List, [], ◌∷◌, Some, None, Option, sym, refl, ap, ◌∙◌, arith}
+use Rattle.std.proofs.Common.{◌≡◌, ℕ, zero, suc, ◌+◌, ◌≤◌, List, [], ◌∷◌, Some, None, Option, arith}
 use Rattle.lowerers.specs.declared.variables.VariableArg.{VariableArg}
-use Rattle.lowerers.specs.Numbers.{number_at, numbered_by, Apart, Makings, none, more, Took}
+use Rattle.lowerers.specs.Numbers.{number_at, numbered_by, Apart, Makings, more, Took}
 
 took_grows : (n m : ℕ) (o : Option ℕ) → Took n o m → n ≤ m
 took_grows n m None t = omega arith

@@ -1,5 +1,5 @@
 -- The pieces of a term over a list of entries. Assumes nothing.
-use Rattle.std.specs.Prelude.{◌≡◌, ℕ, ◌+◌, ◌<◌, List, [], ◌∷◌, ◌++◌, map, length, take, drop, Some, None, Option}
+use Rattle.std.specs.Prelude.{ℕ, ◌+◌, ◌<◌, List, [], ◌∷◌, ◌++◌, map, length, take, drop, Some, None, Option}
 use Rattle.std.specs.List.{slice_get}
 use Rattle.definitions.specs.declared.kinds.Mark.{Mark}
 use Rattle.definitions.specs.declared.kinds.Mark.TheVariants.{Ref, Head, Base, Value, Region}

@@ -1,4 +1,4 @@
-use Rattle.std.proofs.Common.{sym, ap, ◌∙◌, arith}
+use Rattle.std.proofs.Common.{sym, ap, ◌∙◌}
 use Rattle.listing.specs.Blanks.{blank}
 use Rattle.listing.proofs.Listings.{blank_here, not_here, nowhere}
 use Rattle.listing.proofs.lists.blank_at.Goals as goal

@@ -1,4 +1,4 @@
-use Rattle.std.proofs.Common.{sym, ap, ◌∙◌, arith}
+use Rattle.std.proofs.Common.{ap, ◌∙◌, arith}
 use Rattle.listing.specs.Arguments.{bare}
 use Rattle.listing.specs.Tokens.{form}
 use Rattle.listing.proofs.Listings.{one_more, all_added}

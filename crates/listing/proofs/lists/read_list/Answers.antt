@@ -1,4 +1,4 @@
-use Rattle.std.proofs.Common.{◌≡◌, map, length, vec_items, vec_len, refl, inr, arith}
+use Rattle.std.proofs.Common.{map, vec_items, refl, inr, arith}
 use lib.ListN.{length-map}
 use Rattle.listing.specs.Parts.{part}
 use Rattle.listing.proofs.lists.read_list.Goals as goal

@@ -1,4 +1,4 @@
-use Rattle.std.proofs.Common.{◌≡◌, sym, ◌∙◌}
+use Rattle.std.proofs.Common.{sym, ◌∙◌}
 use Rattle.generics.specs.Held.{held}
 use Rattle.places.specs.Places.{default_of, param_at}
 use Rattle.lowerer.specs.Meanings.{fills, kinds_by}

@@ -6,7 +6,6 @@ use Rattle.generics.specs.Held.{held}
 use Rattle.places.specs.Views.{among, meant}
 use Rattle.lowerer.specs.Meanings.{kinds_before, kinds_by, same_kinds}
 use Rattle.lowerer.proofs.Filled.{kinds_differ, shown_rows, taken}
-use Rattle.lowerer.proofs.defaults.fill_before.Given as given
 use Rattle.lowerer.proofs.defaults.fill_before.Goals as goal
 
 pub returns-then-preceding-min : goal.returns-then-preceding-min

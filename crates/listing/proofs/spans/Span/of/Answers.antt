@@ -1,6 +1,6 @@
 use Rattle.std.proofs.Common.{take, sym, ap, ◌∙◌, arith}
 use native.Mathlib.Nat.{sub-zero}
-use Rattle.std.proofs.lemmas.List.{drop_all, take_all, take_rest, length-drop}
+use Rattle.std.proofs.lemmas.List.{drop_all, take_all, take_rest}
 use Rattle.listing.proofs.Spanned.{take_none}
 use Rattle.listing.proofs.spans.Span.of.Goals as goal
 

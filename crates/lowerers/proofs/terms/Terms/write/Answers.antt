@@ -1,4 +1,4 @@
-use Rattle.std.proofs.Common.{◌≡◌, refl, arith}
+use Rattle.std.proofs.Common.{refl, arith}
 use Rattle.pieces.proofs.Laying.{laid_none, put_more, put_all}
 use Rattle.lowerers.proofs.terms.Terms.write.Goals as goal
 

@@ -1,4 +1,4 @@
-use Rattle.std.proofs.Common.{◌≡◌, sym, ap, ◌∙◌, arith}
+use Rattle.std.proofs.Common.{sym, ap, ◌∙◌, arith}
 use Rattle.lowerers.specs.Stores.{part_of, written}
 use Rattle.lowerers.proofs.Stored.{part_there, part_missing}
 use Rattle.lowerers.proofs.terms.makes.Lowering+Terms.pieces.Goals as goal
