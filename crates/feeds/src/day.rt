@@ -4,6 +4,7 @@ use crate::paths::read_path;
 use crate::places::{trim_at, unreadable};
 use crate::templates::{RowText, TemplateText, Word, read_template, row_of};
 use crate::told::{Told, tell_declared, tell_refused, tell_unchecked, tell_unread};
+use crate::unwritten::Unwritten;
 use definitions::kinds::{Declaration, GenericDefKind, GenericParam, Mark};
 use diagnostics::own::OwnReports;
 use generics::catalogue::Catalogue;
@@ -22,7 +23,8 @@ enum Section {
     Schedule,
 }
 
-// What is known of the day so far. A base type is numbered by its place in `bases`.
+// What is known of the day so far. A base type is numbered by its place in `bases`. `unwritten` says whether each
+// template's rows are told as they would be if nothing were written.
 #[derive(Drop)]
 pub struct Day {
     heap: Global,
@@ -30,6 +32,7 @@ pub struct Day {
     catalogue: Catalogue,
     templates: Vec<Template>,
     bases: Vec<Vec<u8>>,
+    unwritten: bool,
 }
 
 // The place of the base type of that name.
@@ -84,13 +87,14 @@ fn adt<'a, 'b>(rows: &'a [GenericParam<'b>]) -> Declaration<'a, 'b, 'static> {
 }
 
 impl Day {
-    pub(crate) fn new(heap: Global) -> Result<Day, AllocError> {
+    pub(crate) fn new(heap: Global, unwritten: bool) -> Result<Day, AllocError> {
         Ok(Day {
             heap,
             section: Section::Before,
             catalogue: Catalogue::new(heap)?,
             templates: Vec::new(heap),
             bases: Vec::new(heap),
+            unwritten,
         })
     }
 
@@ -166,7 +170,18 @@ impl Day {
                     name: known,
                     number: def,
                 })?;
-                tell_declared(rt, number, name, def, template.rows.len())
+                tell_declared(rt, number, name, def, template.rows.len())?;
+                if !self.unwritten {
+                    return Ok(());
+                }
+                let unwritten = Unwritten {
+                    number,
+                    line,
+                    rows: template.rows.as_slice(),
+                    templates: self.templates.as_slice(),
+                    bases: self.bases.as_slice(),
+                };
+                unwritten.tell(rt, self.heap, &self.catalogue, def)
             }
             Err(refusal) => tell_refused(rt, number, name, refusal),
         }

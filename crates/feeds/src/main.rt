@@ -3,7 +3,8 @@
 //
 // Blank lines and lines that begin with `#` are skipped. `[templates]` and `[schedule]` begin a section; a line
 // before either cannot be read. A line that cannot be read is told with its number and column, and nothing of it
-// is carried out.
+// is carried out. Called with the word `unwritten`, the program also says of each template what its rows would be if
+// nothing were written.
 #![tactic(auto)]
 
 mod day;
@@ -14,15 +15,20 @@ mod templates;
 #[cfg(test)]
 mod tests;
 mod told;
+mod unwritten;
 mod words;
 
 use day::Day;
-use std::io;
 use std::io::{BufRead, BufReader};
+use std::{env, io};
 
 fn main(rt: HostRuntime) -> io::Result<()> {
     let heap = rt.alloc();
-    let mut day = Day::new(heap)?;
+    let unwritten = match env::args(&rt)?.nth(1) {
+        Some(word) => word.as_str() == "unwritten",
+        None => false,
+    };
+    let mut day = Day::new(heap, unwritten)?;
     let mut number = 0usize;
     for line in BufReader::new(heap, rt.stdin())?.split(heap, b'\n') {
         let line = line?;

@@ -14,7 +14,7 @@ use std::alloc::AllocError;
 use std::io;
 
 // The text as it was written.
-fn shown(text: &[u8]) -> &str {
+pub(crate) fn shown(text: &[u8]) -> &str {
     match std::str::from_utf8(text) {
         Ok(text) => text,
         Err(_) => "?",

@@ -1,6 +1,6 @@
 -- The pieces of a text, and that they are its only cut. Assumes nothing.
 use Rattle.std.proofs.Common.{◌≡◌, ℕ, ◌+◌, Bool, true, false, cond, List, [], ◌∷◌, ◌++◌, length, Some, None, Option, sym, refl, ap, ◌∙◌, append-nil, arith}
-use Rattle.std.specs.List.{AllByRecursion as All}
+use Rattle.std.specs.List.{AllByRecursion}
 use Rattle.std.proofs.lemmas.Bool.{and_parts, and_from, eqb-true, eq-eqb}
 use Rattle.listing.specs.declared.scanning.Scan.{Scan}
 use Rattle.listing.specs.declared.faults.Fault.{Fault}
@@ -25,7 +25,7 @@ pieces sep s (b ∷ bs) = cond (splits sep s b) ([], all_of (pieces sep start bs
 
 -- the first piece is one from the scan on, each other from the start on
 abbrev pub Singles : ℕ → Scan → Cutting → Type 0
-Singles sep s w = (single sep s w.0 ≡ true) × All (λ p. single sep start p ≡ true) w.1
+Singles sep s w = (single sep s w.0 ≡ true) × AllByRecursion (λ p. single sep start p ≡ true) w.1
 
 -- what a text without fault gives
 pub record Good (sep : ℕ) (s : Scan) (text : List ℕ) : Type 0 where

@@ -1,6 +1,6 @@
 -- The written arguments of a list. Assumes nothing.
 use Rattle.std.proofs.Common.{◌≡◌, ℕ, ◌+◌, ◌<◌, ◌≤◌, Bool, true, false, cond, ◌⊎◌, List, [], ◌∷◌, ◌++◌, map, length, get_or, drop, Some, None, Err, sym, refl, ap, ◌∙◌, subst, inl, inr, append_assoc, append-nil, arith}
-use Rattle.std.specs.List.{AllByRecursion as All}
+use Rattle.std.specs.List.{AllByRecursion}
 use Rattle.std.proofs.lemmas.Bool.{both_ways}
 use Rattle.std.proofs.lemmas.List.{at_drop_more, at_drop_all, map_push, same_from_push}
 use Rattle.path.specs.declared.args.Form.{Form}
@@ -20,7 +20,7 @@ use Rattle.listing.proofs.Cuts.{same_cut}
 
 -- the pieces, none of them blank
 abbrev pub Filled : List (List ℕ) → Type 0
-Filled ps = All (λ p. blank p ≡ false) ps
+Filled ps = AllByRecursion (λ p. blank p ≡ false) ps
 
 absurd_some : {P : Type 0} {n : ℕ} → Some n ≡ None → P
 absurd_some e = let z : ◌≡◌ {A = ℕ} 0 1 = cc in absurd (omega arith)

@@ -1,6 +1,6 @@
 -- The arguments that the text of a list holds. Assumes nothing.
 use Rattle.std.specs.Prelude.{◌≡◌, ℕ, ◌+◌, ◌^◌, ◌<◌, true, false, cond, ◌⊎◌, List, [], ◌∷◌, ◌++◌, map, length, Some, None, Ok, Err, Option, Result}
-use Rattle.std.specs.List.{AllByRecursion as All}
+use Rattle.std.specs.List.{AllByRecursion}
 use Rattle.listing.specs.declared.faults.Fault.{Fault}
 use Rattle.listing.specs.declared.faults.Reason.TheVariants.{Empty, Many}
 use Rattle.listing.specs.declared.faults.ReadError.{ReadError}
@@ -16,7 +16,7 @@ use Rattle.listing.specs.Tokens.{form}
 -- one argument for each piece between commas, in order, none of them blank; a blank piece may stand behind them,
 -- as in an empty list and behind a last comma
 pub record Written (ps : List (List ℕ)) (text : List ℕ) : Type 0 where
-  pub each : All (λ p. blank p ≡ false) ps
+  pub each : AllByRecursion (λ p. blank p ≡ false) ps
   pub pieces : Cut 44 ps text ⊎ ((end : List ℕ) × (blank end ≡ true) × Cut 44 (ps ++ end ∷ []) text)
 
 -- where the first blank one of the spans begins

@@ -1,6 +1,6 @@
 -- What it is to cut a text at a separator. Assumes nothing.
 use Rattle.std.specs.Prelude.{◌≡◌, ℕ, ◌+◌, ◌<◌, Bool, true, false, cond, ◌&&◌, List, [], ◌∷◌, ◌++◌, length, Some, None, Option, ◌==◌}
-use Rattle.std.specs.List.{flat_map, AllByRecursion as All}
+use Rattle.std.specs.List.{flat_map, AllByRecursion}
 use Rattle.listing.specs.declared.scanning.Scan.{Scan}
 use Rattle.listing.specs.declared.spans.Span.{Span}
 use Rattle.listing.specs.declared.faults.Fault.{Fault}
@@ -25,7 +25,7 @@ joined_by sep (p ∷ ps) = p ++ flat_map (λ q. sep ∷ q) ps
 pub record Cut (sep : ℕ) (ps : List (List ℕ)) (text : List ℕ) : Type 0 where
   pub some : 0 < length ps
   pub whole : joined_by sep ps ≡ text
-  pub each : All (λ p. single sep start p ≡ true) ps
+  pub each : AllByRecursion (λ p. single sep start p ≡ true) ps
 
 -- the first byte, counted from i, at which the text cannot be cut: it closes what is not open, or the text ends
 -- while something is open

@@ -10,6 +10,7 @@ use lowerers::variables::{VariableArg, VariableLowerer};
 use pieces::Piece;
 use std::alloc::Global;
 use std::process::Abort;
+use std::test::Fail;
 
 // Makes entries of a type `C` before and after it is declared, and defaults of another type.
 fn around<L: GenericArgsLowerer>(

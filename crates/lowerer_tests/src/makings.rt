@@ -13,6 +13,7 @@ use path::args::{Form, GenericArg};
 use pieces::Piece;
 use std::alloc::Global;
 use std::process::Abort;
+use std::test::Fail;
 
 const FORMS: [Form; 5] = [
     Form::Lifetime,

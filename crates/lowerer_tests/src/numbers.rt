@@ -9,6 +9,7 @@ use lowerer::meaning::Source;
 use lowerers::variables::{VariableArg, VariableLowerer};
 use path::args::{Form, GenericArg};
 use std::process::Abort;
+use std::test::Fail;
 
 fn is_numbered(rt: &impl Abort, entry: VariableArg, variable: Option<u32>) {
     assert_eq!(rt; entry.variable(), variable);

@@ -10,6 +10,7 @@ use lowerers::variables::VariableLowerer;
 use path::args::{Form, GenericArg};
 use pieces::Piece;
 use std::process::Abort;
+use std::test::Fail;
 
 fn missing(def: u32) -> PathLoweringDiagnostic {
     PathLoweringDiagnostic::MissingLifetime {

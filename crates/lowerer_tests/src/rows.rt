@@ -12,6 +12,7 @@ use path::args::{Form, GenericArg};
 use pieces::Piece;
 use std::alloc::Global;
 use std::process::Abort;
+use std::test::Fail;
 
 // Places past the whole list, and definitions that are not declared.
 const STRANGERS: [(u32, usize); 8] = [

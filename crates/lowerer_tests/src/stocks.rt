@@ -11,6 +11,7 @@ use lowerer::meaning::Source;
 use lowerers::terms::LowererCtx;
 use std::alloc::Global;
 use std::process::Abort;
+use std::test::Fail;
 
 // Makes as many defaults as the stock says, of one row; the next is unknown and has no pieces.
 fn drain(rt: &impl Abort, lowerer: &mut LowererCtx, cat: &Catalogue, def: u32, defaults: usize) {

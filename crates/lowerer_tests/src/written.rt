@@ -11,6 +11,7 @@ use lowerers::terms::{LowererCtx, TermArg};
 use path::args::{Form, GenericArg};
 use pieces::Piece;
 use std::process::Abort;
+use std::test::Fail;
 
 // How many pieces an entry has, if it has any.
 fn count(lowerer: &LowererCtx, entry: &TermArg) -> Option<usize> {
