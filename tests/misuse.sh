@@ -1,32 +1,36 @@
 #!/bin/sh
-# Builds each program of tests/misuse over the proved libraries. The first line of a program names what the
-# compiler must say of it; one program is right, so that a broken set-up does not pass for a refusal.
-# Run `rt check` first, which writes the libraries to target/rlib.
+# Builds each program of tests/misuse over the libraries below it, in a folder of its own outside the checkout. The
+# first line of a program names what the compiler must say of it; one program is right, so that a broken set-up does
+# not pass for a refusal.
 set -eu
 cd "$(dirname "$0")/.."
-top=$(pwd -P)
-libs=''
-for lib in definitions diagnostics path; do
-    if [ ! -e "target/rlib/$lib.rlib" ]; then
-        echo "misuse: target/rlib/$lib.rlib is not there: run rt check first" >&2
-        exit 2
-    fi
-    libs="$libs --extern $lib=$top/target/rlib/$lib.rlib"
+libs='definitions diagnostics path'
+top=$(mktemp -d)
+trap 'rm -rf "$top"' EXIT
+trap 'exit 1' HUP INT TERM
+mkdir -p "$top/crates/misuse/src"
+for lib in $libs; do
+    grep "^$lib:" crates.txt >>"$top/crates.txt"
+    mkdir "$top/crates/$lib"
+    for part in src specs proofs; do
+        if [ -d "crates/$lib/$part" ]; then
+            cp -R "crates/$lib/$part" "$top/crates/$lib/$part"
+        fi
+    done
 done
+echo "misuse: $libs" >>"$top/crates.txt"
 bad=0
 tried=0
 proved=0
 for file in tests/misuse/*.txt; do
     name=$(basename "$file" .txt)
     want=$(sed -n '1s,^// expect: ,,p' "$file")
-    dir=target/misuse/$name
-    rm -rf "$dir"
-    mkdir -p "$dir/src"
-    cp "$file" "$dir/src/lib.rt"
+    said=$top/$name.said
+    rm -rf "$top/crates/misuse/out"
+    cp "$file" "$top/crates/misuse/src/lib.rt"
     status=0
-    # shellcheck disable=SC2086
-    rt check "./$dir" $libs -L "dependency=$top/target/rlib" >"$dir/said" 2>&1 || status=$?
-    errors=$(grep -c 'error\[' "$dir/said" || true)
+    (cd "$top/crates/misuse" && rt check) >"$said" 2>&1 || status=$?
+    errors=$(grep -c 'error\[' "$said" || true)
     case $want in
     logic=proved) right=0 most=0 proved=$((proved + 1)) ;;
     error\[*\]*) right=1 most=1 ;;
@@ -36,11 +40,11 @@ for file in tests/misuse/*.txt; do
         continue
         ;;
     esac
-    if [ "$status" -eq "$right" ] && [ "$errors" -eq "$most" ] && grep -qF "$want" "$dir/said"; then
+    if [ "$status" -eq "$right" ] && [ "$errors" -eq "$most" ] && grep -qF "$want" "$said"; then
         echo "misuse $name: $want, as it must be"
     else
         echo "misuse $name: NOT AS EXPECTED, which is $want (exit $status, $errors errors)"
-        head -n 5 "$dir/said"
+        head -n 5 "$said"
         bad=1
     fi
     tried=$((tried + 1))

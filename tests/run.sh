@@ -1,6 +1,7 @@
 #!/bin/sh
-# All tests, each failing loudly: the lists of crates agree, the layout, the programs that must not build, and then
-# rt ci, which proves every crate from nothing, tries the must-fail edits and runs the programs and the tests.
+# All tests, each failing loudly: the lists of crates agree, the programs that must not build, the program with its
+# word, and then rt ci, which looks at the layout, proves every crate from nothing, tries the must-fail edits and runs
+# the programs and the tests. A must-fail edit that cannot be read fails the tests too, which rt ci alone lets pass.
 set -eu
 cd "$(dirname "$0")/.."
 
@@ -8,7 +9,7 @@ if ! command -v rt >/dev/null 2>&1; then
     echo "tests: the command rt of the Rattle kit is not on the path" >&2
     exit 2
 fi
-want='rattle-kit-8b logic 7f726aa041520687'
+want='rattle-kit-13f logic dac8208d650f15bf'
 have=$(rt version)
 if [ "$have" != "$want" ]; then
     echo "tests: note: the kit here is '$have', the README names '$want'"
@@ -30,7 +31,28 @@ for name in $(sed -n 's/^\([a-z_0-9]*\):.*/\1/p' crates.txt); do
 done
 [ "$bad" -eq 0 ] || exit 1
 
-rt fmt --check
-rt check path
 sh tests/misuse.sh
-exec rt ci
+sh tests/unwritten.sh
+
+said=$(mktemp)
+trap 'rm -f "$said"' EXIT
+trap 'exit 1' HUP INT TERM
+{
+    ended=0
+    rt ci || ended=$?
+    echo "tests: rt ci ended with $ended" >"$said.ended"
+} 2>&1 | tee "$said"
+ended=$(cat "$said.ended")
+rm -f "$said.ended"
+if [ "$ended" != 'tests: rt ci ended with 0' ]; then
+    echo "$ended" >&2
+    exit 1
+fi
+if ! grep -q '^rt: ok' "$said"; then
+    echo "tests: rt ci has no line 'rt: ok'" >&2
+    exit 1
+fi
+if grep -qE '^rt: ok.*, [0-9]+ bad' "$said"; then
+    echo "tests: a must-fail edit cannot be read" >&2
+    exit 1
+fi

@@ -24,9 +24,13 @@ use std::{env, io};
 
 fn main(rt: HostRuntime) -> io::Result<()> {
     let heap = rt.alloc();
-    let unwritten = match env::args(&rt)?.nth(1) {
-        Some(word) => word.as_str() == "unwritten",
-        None => false,
+    // Words that cannot be read are not the one that is looked for, and like any other they change nothing.
+    let unwritten = match env::args(&rt) {
+        Ok(mut words) => match words.nth(1) {
+            Some(word) => word.as_str() == "unwritten",
+            None => false,
+        },
+        Err(_) => false,
     };
     let mut day = Day::new(heap, unwritten)?;
     let mut number = 0usize;
