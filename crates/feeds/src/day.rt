@@ -1,7 +1,7 @@
 // The lines of a day, one after the other.
 use crate::known::{Template, resolve, template_of};
+use crate::line_places::{trim_at, unreadable};
 use crate::paths::read_path;
-use crate::places::{trim_at, unreadable};
 use crate::templates::{RowText, TemplateText, Word, read_template, row_of};
 use crate::told::{Told, tell_declared, tell_refused, tell_unchecked, tell_unread};
 use crate::unwritten::Unwritten;

@@ -9,8 +9,8 @@
 
 mod day;
 mod known;
+mod line_places;
 mod paths;
-mod places;
 mod templates;
 #[cfg(test)]
 mod tests;

@@ -3,7 +3,9 @@ ghost use Rattle.std.specs.Prelude.{◌≡◌, IfOk, vec_len, OnOk};
 ghost use Rattle.listing.specs.Parts.{part};
 ghost use Rattle.feeds.specs.Segments.{ListRead, Paired};
 
-use crate::places::{Named, behind, inside_list, moved, read_named, trim_at, unreadable, within};
+use crate::line_places::{
+    Named, behind, inside_list, moved, read_named, trim_at, unreadable, within,
+};
 use listing::cutting::cut;
 use listing::faults::{ReadError, Reason};
 use listing::lists::read_list;

@@ -1,6 +1,6 @@
 // The rows of a template line.
 use crate::known::{Template, template_of};
-use crate::places::{Named, behind, moved, read_named, trim_at, unreadable, within};
+use crate::line_places::{Named, behind, moved, read_named, trim_at, unreadable, within};
 use definitions::kinds::RowKind;
 use listing::blanks::is_white;
 use listing::faults::{ReadError, Reason};
