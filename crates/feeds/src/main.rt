@@ -19,17 +19,17 @@ mod unwritten;
 mod words;
 
 use day::Day;
+use listing::names::is_same;
+use std::env::Env;
+use std::io;
 use std::io::{BufRead, BufReader};
-use std::{env, io};
 
 fn main(rt: HostRuntime) -> io::Result<()> {
     let heap = rt.alloc();
-    // Words that cannot be read are not the one that is looked for, and like any other they change nothing.
-    let unwritten = match env::args(&rt) {
-        Ok(mut words) => match words.nth(1) {
-            Some(word) => word.as_str() == "unwritten",
-            None => false,
-        },
+    // The word is read by itself and without memory, so that nothing hides it. A longer one is another word.
+    let mut word = [0u8; 16];
+    let unwritten = match rt.arg(1, &mut word) {
+        Ok(len) => len <= word.len() && is_same(&word[0..len], b"unwritten"),
         Err(_) => false,
     };
     let mut day = Day::new(heap, unwritten)?;
