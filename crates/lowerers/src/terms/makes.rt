@@ -80,7 +80,8 @@ impl<'a> Lowering<Terms<'a>> {
         }
     }
 
-    // The pieces of an entry that is a default of this lowerer's; no other entry has any.
+    // The pieces of an entry that is a default of this lowerer's; its other entries have none. An entry of another term
+    // lowerer's may find pieces that are not its own.
     pub fn pieces(&self, entry: &TermArg) -> Option<&[Piece<TermArg>]>
         ensures { option_map (λ x. x.now) result ≡ written_in self.now.makes entry.now }
     {
