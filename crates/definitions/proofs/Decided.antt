@@ -16,7 +16,7 @@ use Rattle.definitions.specs.Follows.{no_param, row_at, ParentFollows, RowsFollo
 use Rattle.definitions.proofs.Scans.{is_term_lem, term_is}
 
 no : {P : Type 0} → true ≡ false → P
-no e = let z : ◌≡◌ {A = ℕ} 0 1 = cc in absurd (omega arith)
+no e = absurd (grind arith)
 
 -- parents
 
@@ -27,7 +27,7 @@ declared ds p h = elim (cases_lt p (length ds)) [
 ]
 
 parents_decide : (ds : List Definition) (k : GenericDefKind) (parent : Option ℕ) → Decides (parent_right ds k parent) (ParentFollows ds k parent)
-parents_decide ds k None = (λ _. λ p e. let z : ◌≡◌ {A = ℕ} 0 1 = cc in absurd (omega arith), λ _. refl)
+parents_decide ds k None = (λ _. λ p e. absurd (grind arith), λ _. refl)
 parents_decide ds k (Some q) = (there, back)
   where
     there : parent_right ds k (Some q) ≡ true → ParentFollows ds k (Some q)
@@ -315,7 +315,7 @@ abbrev Body : List Definition → List Kind → GenericDefKind → Option (List 
 Body ds whole k o = (is_some o ≡ is_alias k) × ((ms : List Mark) → o ≡ Some ms → OneTerm ds whole TypeKind ms)
 
 body_reads_lem : (ds : List Definition) (whole : List Kind) (k : GenericDefKind) (o : Option (List Mark)) → body_reads ds whole k o ≡ true → Body ds whole k o
-body_reads_lem ds whole k None h = (sym (not-true (is_alias k) h), λ ms e. let z : ◌≡◌ {A = ℕ} 0 1 = cc in absurd (omega arith))
+body_reads_lem ds whole k None h = (sym (not-true (is_alias k) h), λ ms e. absurd (grind arith))
 body_reads_lem ds whole k (Some ns) h =
     let a = and_parts (is_alias k) (is_term ds whole TypeKind ns) h in
     (sym a.0, λ ms e. one_term ds whole TypeKind ms (let same : ns ≡ ms = cc in subst (λ l. is_term ds whole TypeKind l ≡ true) same a.1))

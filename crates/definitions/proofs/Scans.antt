@@ -12,7 +12,7 @@ use Rattle.definitions.proofs.Ends.{term_within, term_one, slots_grow}
 -- nothing is read as no terms but no marks
 none_left : (ds : List Definition) (whole : List Kind) (xs : List Mark) → reads ds whole [] xs ≡ true → length xs ≡ 0
 none_left ds whole [] h = refl
-none_left ds whole (x ∷ xs) h = let z : ◌≡◌ {A = ℕ} 0 1 = cc in absurd (omega arith)
+none_left ds whole (x ∷ xs) h = absurd (grind arith)
 
 module _ (ds : List Definition) (whole : List Kind) (ms : List Mark) where
   -- at a mark that is there, the test goes on with its slots
@@ -23,8 +23,7 @@ module _ (ds : List Definition) (whole : List Kind) (ms : List Mark) where
   ended : {P : Type 0} (p : ℕ) (k : Kind) (ks : List Kind) → length ms ≤ p → reads ds whole (k ∷ ks) (drop p ms) ≡ true → P
   ended p k ks h r =
       let e : false ≡ true = sym (ap (reads ds whole (k ∷ ks)) (drop_all p ms h)) ∙ r in
-      let z : ◌≡◌ {A = ℕ} 0 1 = cc in
-      absurd (omega arith)
+      absurd (grind arith)
 
   mutual
     -- behind a term, what is still to come decides

@@ -1,4 +1,5 @@
 // The plain values that definitions are made of.
+ghost use Rattle.std.specs.Prelude.{◌≡◌, None};
 
 // What a definition is.
 #[derive(Clone, Copy, PartialEq, Eq, Debug)]
@@ -57,8 +58,29 @@ pub struct Declaration<'a, 'b, 'c> {
     pub body: Option<&'c [Mark]>,
 }
 
+impl<'a, 'b> Declaration<'a, 'b, 'static> {
+    // A declaration without a body.
+    pub fn bare(
+        kind: GenericDefKind,
+        parent: Option<u32>,
+        rows: &'a [GenericParam<'b>],
+    ) -> Declaration<'a, 'b, 'static>
+        ensures kind { result.kind ≡ kind }
+        ensures parent { result.parent ≡ parent }
+        ensures rows { result.rows.now ≡ rows.now }
+        ensures body { result.body ≡ None }
+    {
+        Declaration {
+            kind,
+            parent,
+            rows,
+            body: None,
+        }
+    }
+}
+
 // The name of a parameter: its definition, whether it is a lifetime, and its number among the definition's
-// lifetimes, or among its other rows.
+// lifetimes, or among its other rows. A flag, since an enum of two cases with the same two fields would say no more.
 #[derive(Clone, Copy, PartialEq, Eq, Debug)]
 pub struct GenericParamId {
     pub def: u32,

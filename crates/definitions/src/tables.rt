@@ -3,7 +3,7 @@ ghost use Rattle.std.specs.Prelude.{◌≡◌};
 ghost use Rattle.definitions.specs.Definitions.{is_lifetime, kind_of};
 ghost use Rattle.definitions.specs.Rules.{is_alias, is_function, is_named, may_be_parent, may_have_parent, selves_of};
 ghost use Rattle.definitions.specs.Rules.{rank as rank_of};
-ghost use Rattle.definitions.specs.Terms.{is_adt, same_kind};
+ghost use Rattle.definitions.specs.Terms.{is_adt};
 
 use crate::kinds::{GenericDefKind, Kind, RowKind};
 
@@ -65,7 +65,8 @@ impl RowKind {
         }
     }
 
-    // Where rows of this kind stand: Self, lifetimes, named rows, impl-trait rows.
+    // Where rows of this kind stand: Self, lifetimes, named rows, impl-trait rows. A number, since rows
+    // are counted by any number: an enum would be a narrower type.
     pub fn rank(self) -> usize
         ensures { result ≡ rank_of self }
     {
@@ -88,18 +89,5 @@ impl RowKind {
         ensures { result ≡ is_named self }
     {
         matches!(self, RowKind::Type | RowKind::Const)
-    }
-}
-
-impl Kind {
-    pub fn same(self, other: Kind) -> bool
-        ensures { result ≡ same_kind self other }
-    {
-        match (self, other) {
-            (Kind::Lifetime, Kind::Lifetime) => true,
-            (Kind::Type, Kind::Type) => true,
-            (Kind::Const, Kind::Const) => true,
-            _ => false,
-        }
     }
 }
