@@ -1,16 +1,18 @@
 -- A catalogue's lists with one definition more. Assumes nothing.
-use Rattle.std.proofs.Common.{◌≡◌, ℕ, zero, suc, ◌+◌, ◌<◌, ◌≤◌, true, ltb, leb, List, [], ◌∷◌, ◌++◌, map, length, get_or, take, drop, Some, None, Option, sym, refl, ap, ◌∙◌, inl, inr, append_assoc, append-nil, arith, length-append, length-drop}
+use Rattle.std.proofs.Common.{◌≡◌, ℕ, zero, suc, ◌+◌, ◌<◌, ◌≤◌, true, List, [], ◌∷◌, ◌++◌, map, length, get_or, take, drop, Some, None, Option, sym, refl, ap, ◌∙◌, inl, inr, append_assoc, append-nil, arith, length-append, length-drop}
 use mathlib.Core.List.{map-append}
 use Rattle.std.proofs.lemmas.List.{take-map, drop-map, take-append-le, drop-append-le, drop_at, take_all, take_at, get_or_append_left, get_or_push, length_push}
-use Rattle.std.proofs.lemmas.Bool.{and_parts, leb-true, ltb-true, cases_lt}
+use Rattle.std.proofs.lemmas.Bool.{cases_lt}
 use Rattle.definitions.specs.declared.kinds.Mark.{Mark}
-use Rattle.generics.specs.declared.stored.Span.{Span}
+use Rattle.spans.specs.declared.Span.{Span}
+use Rattle.spans.specs.Parts.{part, past}
 use Rattle.generics.specs.declared.stored.Row.{Row}
 use Rattle.generics.specs.declared.stored.Def.{Def}
 use Rattle.definitions.specs.Definitions.{Param, Definition, nothing, marks_in, default_marks, row_total, mark_total}
 use Rattle.generics.specs.Laid.{marks_of, span_at, laid, flat}
-use Rattle.generics.specs.Lays.{cut, spelled, param_of, definition_of, definitions, no_row, no_def, end_of, Within, Counted}
+use Rattle.generics.specs.Lays.{spelled, param_of, definition_of, definitions, no_row, no_def, end_of, Within, Counted}
 use Rattle.definitions.specs.Rules.{follows, has_room, Lawful, Limited}
+use Rattle.definitions.proofs.Decided.{tests_decide}
 
 -- lists of general elements
 
@@ -27,22 +29,22 @@ each_one : {X : Type 0} (P : X → Type 0) (y d : X) → P y → (i : ℕ) → i
 each_one P y d p zero h = p
 each_one P y d p (suc i) h = absurd (omega arith)
 
-cut_same : {X : Type 0} (from len : ℕ) (xs ys : List X) → from + len ≤ length xs → cut from len (xs ++ ys) ≡ cut from len xs
-cut_same from len xs ys h =
-    let l = length-drop from xs in
-    ap (take len) (drop-append-le from xs ys (omega arith)) ∙ take-append-le len (drop from xs) ys (omega arith)
+part_same : {X : Type 0} (s : Span) (xs ys : List X) → past s ≤ length xs → part (xs ++ ys) s ≡ part xs s
+part_same s xs ys h =
+    let l = length-drop s.from xs in
+    ap (take s.len) (drop-append-le s.from xs ys (omega arith)) ∙ take-append-le s.len (drop s.from xs) ys (omega arith)
 
-cut_last : {X : Type 0} (xs ys : List X) (from len : ℕ) → from ≡ length xs → len ≡ length ys → cut from len (xs ++ ys) ≡ ys
-cut_last xs ys from len e f = ap (take len) (drop_at xs ys from (sym e)) ∙ take_all len ys (omega arith)
+part_last : {X : Type 0} (xs ys : List X) (s : Span) → s.from ≡ length xs → s.len ≡ length ys → part (xs ++ ys) s ≡ ys
+part_last xs ys s e f = ap (take s.len) (drop_at xs ys s.from (sym e)) ∙ take_all s.len ys (omega arith)
 
-cut_map : {X Y : Type 0} (f : X → Y) (from len : ℕ) (xs : List X) → map f (cut from len xs) ≡ cut from len (map f xs)
-cut_map f from len xs = sym (take-map f len (drop from xs)) ∙ ap (take len) (sym (drop-map f from xs))
+part_map : {X Y : Type 0} (f : X → Y) (s : Span) (xs : List X) → map f (part xs s) ≡ part (map f xs) s
+part_map f s xs = sym (take-map f s.len (drop s.from xs)) ∙ ap (take s.len) (sym (drop-map f s.from xs))
 
 -- what was there is spelled as before
 
 spelled_same : (marks more : List Mark) (s : Option Span) → end_of s ≤ length marks → spelled (marks ++ more) s ≡ spelled marks s
 spelled_same marks more None h = refl
-spelled_same marks more (Some s) h = ap Some (cut_same s.from s.len marks more h)
+spelled_same marks more (Some s) h = ap Some (part_same s marks more h)
 
 param_same : (marks more : List Mark) (r : Row) → end_of r.default ≤ length marks → param_of (marks ++ more) r ≡ param_of marks r
 param_same marks more r h = ap (λ o. record { kind = r.kind; default = o }) (spelled_same marks more r.default h)
@@ -52,10 +54,10 @@ module _ (defs : List Def) (rows : List Row) (marks : List Mark) (ok : Within de
   definition_same i h =
       let d = get_or defs i no_def in
       let params : map (param_of (marks ++ new_marks)) rows ≡ map (param_of marks) rows = map_same (param_of (marks ++ new_marks)) (param_of marks) rows no_row (λ j q. param_same marks new_marks (get_or rows j no_row) (ok.2 j q)) in
-      let r : map (param_of (marks ++ new_marks)) (cut d.first d.count (rows ++ new_rows)) ≡ map (param_of marks) (cut d.first d.count rows) =
-      ap (map (param_of (marks ++ new_marks))) (cut_same d.first d.count rows new_rows (ok.0 i h)) ∙ cut_map (param_of (marks ++ new_marks)) d.first d.count rows ∙ ap (cut d.first d.count) params ∙ sym (cut_map (param_of marks) d.first d.count rows) in
+      let r : map (param_of (marks ++ new_marks)) (part (rows ++ new_rows) d.rows) ≡ map (param_of marks) (part rows d.rows) =
+      ap (map (param_of (marks ++ new_marks))) (part_same d.rows rows new_rows (ok.0 i h)) ∙ part_map (param_of (marks ++ new_marks)) d.rows rows ∙ ap (λ l. part l d.rows) params ∙ sym (part_map (param_of marks) d.rows rows) in
       let b = spelled_same marks new_marks d.body (ok.1 i h) in
-      ap (λ x. record { kind = d.kind; parent = d.parent; rows = x; body = spelled (marks ++ new_marks) d.body }) r ∙ ap (λ x. record { kind = d.kind; parent = d.parent; rows = map (param_of marks) (cut d.first d.count rows); body = x }) b
+      ap (λ x. record { kind = d.kind; parent = d.parent; rows = x; body = spelled (marks ++ new_marks) d.body }) r ∙ ap (λ x. record { kind = d.kind; parent = d.parent; rows = map (param_of marks) (part rows d.rows); body = x }) b
 
   pub definitions_same : definitions defs (rows ++ new_rows) (marks ++ new_marks) ≡ definitions defs rows marks
   definitions_same = map_same (definition_of (rows ++ new_rows) (marks ++ new_marks)) (definition_of rows marks) defs no_def definition_same
@@ -122,12 +124,8 @@ lawful_more ds d ok new i h = elim (cases_lt i (length ds)) [
 
 pub limited_more : (ds : List Definition) (d : Definition) → has_room ds d ≡ true → Limited (ds ++ d ∷ [])
 limited_more ds d h =
-    let a = and_parts (ltb (length ds) 64) _ h in
-    let b = and_parts (leb (row_total ds + length d.rows) 512) _ a.1 in
-    let x = ltb-true (length ds) 64 a.0 in
-    let y = leb-true (row_total ds + length d.rows) 512 b.0 in
-    let z = leb-true (mark_total ds + (default_marks d.rows + marks_in d.body)) 2048 b.1 in
-    (omega (arith, length_push ds d), omega (arith, rows_total ds d), omega (arith, marks_total ds d))
+    let f = (tests_decide ds d).room.0 h in
+    (omega (arith, f.defs, length_push ds d), omega (arith, f.rows, rows_total ds d), omega (arith, f.marks, marks_total ds d))
 
 -- the catalogue's lists after a declaration
 module _ (defs : List Def) (rows : List Row) (marks : List Mark) (d : Definition) (count : ℕ) where
@@ -138,12 +136,12 @@ module _ (defs : List Def) (rows : List Row) (marks : List Mark) (d : Definition
   new_marks = flat d.rows ++ marks_of d.body
 
   abbrev pub new_def : Def
-  new_def = record { kind = d.kind; parent = d.parent; first = length rows; count = count; body = span_at (length marks + default_marks d.rows) d.body }
+  new_def = record { kind = d.kind; parent = d.parent; rows = record { from = length rows; len = count }; body = span_at (length marks + default_marks d.rows) d.body }
 
   new_spells : count ≡ length d.rows → definition_of (rows ++ new_rows) (marks ++ new_marks) new_def ≡ d
   new_spells e =
       let at = length marks + default_marks d.rows in
-      let r : map (param_of (marks ++ new_marks)) (cut (length rows) count (rows ++ new_rows)) ≡ d.rows = ap (map (param_of (marks ++ new_marks))) (cut_last rows new_rows (length rows) count refl (e ∙ sym (laid_long (length marks) d.rows))) ∙ laid_spells marks (marks_of d.body) (length marks) d.rows refl in
+      let r : map (param_of (marks ++ new_marks)) (part (rows ++ new_rows) new_def.rows) ≡ d.rows = ap (map (param_of (marks ++ new_marks))) (part_last rows new_rows new_def.rows refl (e ∙ sym (laid_long (length marks) d.rows))) ∙ laid_spells marks (marks_of d.body) (length marks) d.rows refl in
       let whole : marks ++ new_marks ≡ (marks ++ flat d.rows) ++ (marks_of d.body ++ []) = sym (append_assoc marks (flat d.rows) (marks_of d.body)) ∙ ap (λ l. (marks ++ flat d.rows) ++ l) (sym (append-nil (marks_of d.body))) in
       let here : at ≡ length (marks ++ flat d.rows) = omega (arith, length-append marks (flat d.rows), flat_long d.rows) in
       let b : spelled (marks ++ new_marks) (span_at at d.body) ≡ d.body = ap (λ l. spelled l (span_at at d.body)) whole ∙ span_spells (marks ++ flat d.rows) [] at d.body here in
@@ -164,7 +162,7 @@ module _ (defs : List Def) (rows : List Row) (marks : List Mark) (d : Definition
       let l = rows_long in
       let m = marks_grown in
       let at = length marks + default_marks d.rows in (
-        each_append (λ (x : Def). x.first + x.count ≤ length (rows ++ new_rows)) defs (new_def ∷ []) no_def (λ i h. omega (arith, ok.0 i h)) (each_one (λ (x : Def). x.first + x.count ≤ length (rows ++ new_rows)) new_def no_def (omega arith)),
+        each_append (λ (x : Def). past x.rows ≤ length (rows ++ new_rows)) defs (new_def ∷ []) no_def (λ i h. omega (arith, ok.0 i h)) (each_one (λ (x : Def). past x.rows ≤ length (rows ++ new_rows)) new_def no_def (omega arith)),
         each_append (λ (x : Def). end_of x.body ≤ length (marks ++ new_marks)) defs (new_def ∷ []) no_def (λ i h. omega (arith, ok.1 i h)) (each_one (λ (x : Def). end_of x.body ≤ length (marks ++ new_marks)) new_def no_def (omega (arith, span_ends at d.body))),
         each_append (λ (r : Row). end_of r.default ≤ length (marks ++ new_marks)) rows new_rows no_row (λ i h. omega (arith, ok.2 i h)) (λ i h. omega (arith, laid_ends (length marks) d.rows i h)),
       )

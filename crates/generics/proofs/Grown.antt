@@ -3,7 +3,7 @@ use Rattle.std.proofs.Common.{◌≡◌, ℕ, ◌+◌, ◌<◌, ◌≤◌, List,
 use Rattle.std.proofs.lemmas.List.{take_more, at_drop_more, at_drop_all}
 use Rattle.definitions.specs.declared.kinds.GenericParam.{GenericParam}
 use Rattle.definitions.specs.declared.kinds.Mark.{Mark}
-use Rattle.generics.specs.declared.stored.Span.{Span}
+use Rattle.spans.specs.declared.Span.{Span}
 use Rattle.generics.specs.declared.stored.Row.{Row}
 use Rattle.definitions.specs.Definitions.{marks_in}
 use Rattle.generics.specs.Laid.{marks_of, span_at, laid, flat}

@@ -1,13 +1,13 @@
 -- How long the catalogue's lists are. Assumes nothing.
-use Rattle.std.proofs.Common.{◌≡◌, ◌+◌, ◌<◌, ◌≤◌, true, ltb, leb, length, vec_items, vec_len, sym, ◌∙◌, arith}
+use Rattle.std.proofs.Common.{◌≡◌, ◌+◌, ◌<◌, ◌≤◌, true, length, vec_items, vec_len, sym, ◌∙◌, arith}
 use lib.ListN.{length-map}
-use Rattle.std.proofs.lemmas.Bool.{and_parts, ltb-true, leb-true}
 use Rattle.generics.specs.declared.catalogue.Catalogue.{Catalogue}
 use Rattle.definitions.specs.declared.kinds.Declaration.{Declaration}
 use Rattle.definitions.specs.Definitions.{row_total, mark_total, marks_in, default_marks}
 use Rattle.generics.specs.Held.{held}
 use Rattle.generics.specs.Lays.{definition_of, param_asked, asked}
 use Rattle.definitions.specs.Rules.{has_room}
+use Rattle.definitions.proofs.Decided.{tests_decide}
 
 module _ (cat : Catalogue) where
   pub defs_long : length (held cat) ≡ vec_len cat.defs
@@ -30,13 +30,9 @@ pub record Roomy (cat : Catalogue) (d : Declaration) : Type 0 where
 
 pub roomy : (cat : Catalogue) (d : Declaration) → has_room (held cat) (asked d) ≡ true → Roomy cat d
 roomy cat d h =
-    let a = and_parts (ltb (length (held cat)) 64) _ h in
-    let b = and_parts (leb (row_total (held cat) + length (asked d).rows) 512) _ a.1 in
-    let x = ltb-true (length (held cat)) 64 a.0 in
-    let y = leb-true (row_total (held cat) + length (asked d).rows) 512 b.0 in
-    let z = leb-true (mark_total (held cat) + (default_marks (asked d).rows + marks_in (asked d).body)) 2048 b.1 in
+    let f = (tests_decide (held cat) (asked d)).room.0 h in
     record {
-      defs = omega (arith, defs_long cat);
-      rows = omega (arith, rows_long cat, asked_long d);
-      marks = omega (arith, marks_long cat);
+      defs = omega (arith, f.defs, defs_long cat);
+      rows = omega (arith, f.rows, rows_long cat, asked_long d);
+      marks = omega (arith, f.marks, marks_long cat);
     }

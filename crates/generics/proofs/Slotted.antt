@@ -14,7 +14,7 @@ rest_of : (r : Row) (rs : List Row) → take (length (r ∷ rs) - 1) rs ≡ rs
 rest_of r rs = take_all _ rs (omega arith)
 
 never : {P : Type 0} {b : Bool} → b ≡ true → false ≡ b → P
-never e f = let z : ◌≡◌ {A = ℕ} 0 1 = cc in absurd (omega arith)
+never e f = absurd (grind arith)
 
 module _ {ds : List Definition} {whole : List Kind} {ms : List Mark} where
   -- the slots of no rows

@@ -1,10 +1,10 @@
 -- One row further in the tests over rows. Assumes nothing.
-use Rattle.std.proofs.Common.{◌≡◌, ℕ, ◌+◌, ◌-◌, ◌<◌, ◌≤◌, Bool, true, false, ◌&&◌, ◌||◌, eqb, ltb, leb, List, [], ◌∷◌, ◌++◌, map, length, get_or, take, drop, is_some, Some, None, sym, ap, ◌∙◌, inl, inr, append_assoc, arith}
+use Rattle.std.proofs.Common.{◌≡◌, ℕ, ◌+◌, ◌-◌, ◌<◌, ◌≤◌, Bool, true, false, ◌&&◌, ◌||◌, eqb, leb, List, [], ◌∷◌, ◌++◌, map, length, get_or, take, drop, is_some, Some, None, sym, ap, ◌∙◌, inl, inr, append_assoc, arith, refl, length-drop}
 use mathlib.Core.List.{map-append, map-map}
 use lib.ListN.{length-map}
-use Rattle.std.proofs.lemmas.List.{at_drop_more, map_more}
-use Rattle.std.proofs.lemmas.Bool.{le-leb, lt-leb, lt-ltb, le-ltb, cases_lt}
-use Rattle.std.proofs.lemmas.Bool.Decides.{nat_tests}
+use Rattle.std.specs.List.{list_all, enumerate_from}
+use Rattle.std.proofs.lemmas.List.{drop_more, at_drop_more, map_more}
+use Rattle.std.proofs.lemmas.Bool.{le-leb, lt-leb, cases_lt}
 use Rattle.definitions.specs.declared.kinds.Kind.{Kind}
 use Rattle.definitions.specs.declared.kinds.GenericParam.{GenericParam}
 use Rattle.definitions.specs.declared.kinds.GenericDefKind.{GenericDefKind}
@@ -13,7 +13,7 @@ use Rattle.definitions.specs.declared.kinds.RowKind.TheVariants.{TraitSelf}
 use Rattle.definitions.specs.Definitions.{Param, Definition, row_kinds_of, kind_of, kinds_of, marks_in, default_marks, parent_rows, whole_rows}
 use Rattle.generics.specs.Held.{asked_kinds}
 use Rattle.generics.specs.Lays.{param_asked, params_asked}
-use Rattle.definitions.specs.Rules.{rank, in_order, ranked, selves_of, is_function, rows_right, default_right, defaults_right, lessen, default_reads, defaults_read, body_reads, terms_right}
+use Rattle.definitions.specs.Rules.{in_order, ranked, selves_of, is_function, rows_right, default_right, defaults_right, lessen, default_reads, defaults_read, body_reads, terms_right}
 
 abbrev pub no_param : GenericParam
 no_param = record { kind = TraitSelf; default = None }
@@ -32,16 +32,6 @@ module _ (gs : List GenericParam) (i : ℕ) (h : i < length gs) where
   abbrev behind : List GenericParam
   behind = drop (i + 1) gs
 
-  module _ (low : ℕ) {y : Bool} (known : in_order low (params_asked (drop i gs)) ≡ y) where
-    order_more : in_order low (params_asked (drop i gs)) ≡ leb low (rank here.kind) && in_order (rank here.kind) (params_asked behind)
-    order_more = at_drop_more (λ xs. in_order low (params_asked xs)) gs i no_param h
-
-    pub order_stops : rank here.kind < low → false ≡ y
-    order_stops q = stops (leb low (rank here.kind)) (in_order (rank here.kind) (params_asked behind)) order_more known (lt-leb low (rank here.kind) q)
-
-    pub order_goes : low ≤ rank here.kind → in_order (rank here.kind) (params_asked behind) ≡ y
-    order_goes q = goes (leb low (rank here.kind)) (in_order (rank here.kind) (params_asked behind)) order_more known (le-leb low (rank here.kind) q)
-
   module _ (seen : Bool) {y : Bool} (known : defaults_right seen (params_asked (drop i gs)) ≡ y) where
     defaults_more : defaults_right seen (params_asked (drop i gs)) ≡ default_right seen (param_asked here) && defaults_right (seen || is_some (param_asked here).default) (params_asked behind)
     defaults_more = at_drop_more (λ xs. defaults_right seen (params_asked xs)) gs i no_param h
@@ -58,15 +48,22 @@ module _ (gs : List GenericParam) (i : ℕ) (h : i < length gs) where
   pub before_more : (ks : List Kind) → (ks ++ asked_kinds (take i gs)) ++ kind_of here.kind ∷ [] ≡ ks ++ asked_kinds (take (i + 1) gs)
   before_more ks = append_assoc ks (asked_kinds (take i gs)) (kind_of here.kind ∷ []) ∙ ap (λ ys. ks ++ ys) (sym (map_more (λ (g : GenericParam). kind_of g.kind) gs i no_param h))
 
-  module _ (ds : List Definition) (ks : List Kind) {y : Bool} (known : defaults_read ds (ks ++ asked_kinds (take i gs)) (params_asked (drop i gs)) ≡ y) where
-    reads_more : defaults_read ds (ks ++ asked_kinds (take i gs)) (params_asked (drop i gs)) ≡ default_reads ds (ks ++ asked_kinds (take i gs)) (param_asked here) (param_asked here).default && defaults_read ds (ks ++ asked_kinds (take (i + 1) gs)) (params_asked behind)
-    reads_more = at_drop_more (λ xs. defaults_read ds (ks ++ asked_kinds (take i gs)) (params_asked xs)) gs i no_param h ∙ ap (λ zs. default_reads ds (ks ++ asked_kinds (take i gs)) (param_asked here) (param_asked here).default && defaults_read ds zs (params_asked behind)) (before_more ks)
+-- the test of each default, with its row's position
+abbrev pub reads_at : List Definition → List Kind → List GenericParam → ℕ × GenericParam → Bool
+reads_at ds ks gs e = default_reads ds (ks ++ asked_kinds (take e.0 gs)) (param_asked e.1) (param_asked e.1).default
 
-    pub reads_stop : default_reads ds (ks ++ asked_kinds (take i gs)) (param_asked here) (param_asked here).default ≡ false → false ≡ y
-    reads_stop q = stops (default_reads ds (ks ++ asked_kinds (take i gs)) (param_asked here) (param_asked here).default) (defaults_read ds (ks ++ asked_kinds (take (i + 1) gs)) (params_asked behind)) reads_more known q
-
-    pub reads_go : default_reads ds (ks ++ asked_kinds (take i gs)) (param_asked here) (param_asked here).default ≡ true → defaults_read ds (ks ++ asked_kinds (take (i + 1) gs)) (params_asked behind) ≡ y
-    reads_go q = goes (default_reads ds (ks ++ asked_kinds (take i gs)) (param_asked here) (param_asked here).default) (defaults_read ds (ks ++ asked_kinds (take (i + 1) gs)) (params_asked behind)) reads_more known q
+-- the tests of all that is left, from a position on
+pub all_read : (ds : List Definition) (ks : List Kind) (all : List GenericParam) (n : ℕ) (gs : List GenericParam) → drop n all ≡ gs → list_all (reads_at ds ks all) (enumerate_from n gs) ≡ defaults_read ds (ks ++ asked_kinds (take n all)) (params_asked gs)
+all_read ds ks all n [] e = refl
+all_read ds ks all n (g ∷ gs) e =
+    let l = length-drop n all in
+    let m = ap length e in
+    let h : n < length all = omega arith in
+    let d = sym (drop_more all n no_param h) ∙ e in
+    let x : get_or all n no_param ≡ g = ap (λ xs. get_or xs 0 no_param) d in
+    let rest : drop (n + 1) all ≡ gs = ap (drop 1) d in
+    let before : (ks ++ asked_kinds (take n all)) ++ kind_of g.kind ∷ [] ≡ ks ++ asked_kinds (take (n + 1) all) = ap (λ (y : GenericParam). (ks ++ asked_kinds (take n all)) ++ kind_of y.kind ∷ []) (sym x) ∙ before_more all n h ks in
+    ap (λ b. reads_at ds ks all (n, g) && b) (all_read ds ks all (n + 1) gs rest ∙ ap (λ zs. defaults_read ds zs (params_asked gs)) (sym before))
 
 -- what is taken in two steps, or not
 pub lessen_more : (whole part rest : ℕ) → part ≤ whole → lessen whole (part + rest) ≡ lessen (whole - part) rest
@@ -80,29 +77,6 @@ lessen_none whole part rest h = rw (lt-leb (part + rest) whole (omega arith))
 
 pub lessen_all : (whole : ℕ) → Some whole ≡ lessen whole 0
 lessen_all whole = rw (le-leb 0 whole (omega arith)) (ap Some (omega arith))
-
--- what is left after the first part decides for both parts
-pub lessen_left : (whole part left x : ℕ) → Some left ≡ lessen whole part → leb x left ≡ leb (part + x) whole
-lessen_left whole part left x e = elim (cases_lt whole part) [
-  | inl q ↦ let n : Some left ≡ None = e ∙ rw (lt-leb part whole q) in let z : ◌≡◌ {A = ℕ} 0 1 = cc in absurd (omega arith)
-  | inr q ↦
-      let n : Some left ≡ Some (whole - part) = e ∙ rw (le-leb part whole q) in
-      let l : left ≡ whole - part = cc in
-      grind (arith, nat_tests)
-]
-
-pub room_moved : (a b whole : ℕ) → a ≤ whole → leb b (whole - a) ≡ leb (a + b) whole
-room_moved a b whole h = grind (arith, nat_tests)
-
--- the limits on definitions and rows, tried in order
-pub defs_full : (n : ℕ) (y : Bool) → 64 ≤ n → false ≡ ltb n 64 && y
-defs_full n y h = rw (le-ltb n 64 h)
-
-pub rows_full : (n r : ℕ) (y : Bool) → n < 64 → 512 < r → false ≡ ltb n 64 && (leb r 512 && y)
-rows_full n r y h k = rw (lt-ltb n 64 h, lt-leb r 512 k)
-
-pub marks_decide : (n r : ℕ) (y : Bool) → n < 64 → r ≤ 512 → y ≡ ltb n 64 && (leb r 512 && y)
-marks_decide n r y h k = rw (lt-ltb n 64 h, le-leb r 512 k)
 
 -- the kinds of the whole list of a declaration
 pub whole_kinds : (ps : List Param) (gs : List GenericParam) → kinds_of (ps ++ params_asked gs) ≡ kinds_of ps ++ asked_kinds gs

@@ -1,10 +1,11 @@
 -- What a declaration answers, and what it leaves. Assumes nothing.
 use Rattle.std.specs.Prelude.{◌≡◌, ℕ, false, cond, List, [], ◌∷◌, ◌++◌, length, Ok, Err, Result}
-use Rattle.generics.specs.declared.declare.DeclareRefusal.{DeclareRefusal}
-use Rattle.generics.specs.declared.declare.DeclareRefusal.TheVariants.{Parent, Rows, Default, Term, Full}
+use Rattle.generics.specs.declared.refusal.DeclareRefusal.{DeclareRefusal}
+use Rattle.generics.specs.declared.refusal.DeclareRefusal.TheVariants.{Parent, Rows, Default, Term, Full}
 use Rattle.generics.specs.declared.catalogue.Catalogue.{Catalogue}
 use Rattle.definitions.specs.Definitions.{Definition}
 use Rattle.generics.specs.Held.{held}
+use Rattle.generics.specs.Refusals.{number_of}
 use Rattle.definitions.specs.Follows.{ParentFollows, RowsFollow, DefaultsFollow, TermsFollow, Fits}
 use Rattle.definitions.specs.Rules.{parent_right, rows_right, defaults_right, terms_right, has_room}
 
@@ -12,13 +13,6 @@ use Rattle.definitions.specs.Rules.{parent_right, rows_right, defaults_right, te
 pub data Answer : Type 0 where
   gives : ℕ → Answer
   refuses : ℕ → Answer
-
-abbrev pub number_of : DeclareRefusal → ℕ
-number_of Parent = 1
-number_of Rows = 2
-number_of Default = 3
-number_of Term = 4
-number_of Full = 5
 
 abbrev pub answer : Result ℕ DeclareRefusal → Answer
 answer (Ok n) = gives n

@@ -1,7 +1,7 @@
 -- How rows and marks are laid one behind another in the catalogue's lists. Assumes nothing.
 use Rattle.std.specs.Prelude.{ℕ, ◌+◌, List, [], ◌∷◌, ◌++◌, length, Some, None, Option}
 use Rattle.definitions.specs.declared.kinds.Mark.{Mark}
-use Rattle.generics.specs.declared.stored.Span.{Span}
+use Rattle.spans.specs.declared.Span.{Span}
 use Rattle.generics.specs.declared.stored.Row.{Row}
 use Rattle.definitions.specs.Definitions.{Param, marks_in}
 

@@ -1,23 +1,20 @@
 -- What the catalogue's lists hold: the definitions that its parts spell. Assumes nothing.
-use Rattle.std.specs.Prelude.{◌≡◌, ℕ, ◌+◌, ◌<◌, ◌≤◌, List, map, length, take, drop, Some, None, Option, slice_index_or}
+use Rattle.std.specs.Prelude.{◌≡◌, ℕ, ◌<◌, ◌≤◌, List, map, length, Some, None, Option, slice_index_or}
 use Rattle.std.specs.Option.{option_map}
 use Rattle.definitions.specs.declared.kinds.Mark.{Mark}
 use Rattle.definitions.specs.declared.kinds.GenericParam.{GenericParam}
 use Rattle.definitions.specs.declared.kinds.Declaration.{Declaration}
 use Rattle.definitions.specs.declared.kinds.RowKind.TheVariants.{TraitSelf}
 use Rattle.definitions.specs.declared.kinds.GenericDefKind.TheVariants.{Function}
-use Rattle.generics.specs.declared.stored.Span.{Span}
+use Rattle.spans.specs.declared.Span.{Span}
+use Rattle.spans.specs.Parts.{part, past}
 use Rattle.generics.specs.declared.stored.Row.{Row}
 use Rattle.generics.specs.declared.stored.Def.{Def}
 use Rattle.definitions.specs.Definitions.{Param, Definition, row_total, mark_total}
 
--- a part of a list
-abbrev pub cut : {X : Type 0} → ℕ → ℕ → List X → List X
-cut from len xs = take len (drop from xs)
-
 abbrev pub spelled : List Mark → Option Span → Option (List Mark)
 spelled marks None = None
-spelled marks (Some s) = Some (cut s.from s.len marks)
+spelled marks (Some s) = Some (part marks s)
 
 abbrev pub param_of : List Mark → Row → Param
 param_of marks r = record { kind = r.kind; default = spelled marks r.default }
@@ -27,7 +24,7 @@ definition_of rows marks d =
     record {
       kind = d.kind;
       parent = d.parent;
-      rows = map (param_of marks) (cut d.first d.count rows);
+      rows = map (param_of marks) (part rows d.rows);
       body = spelled marks d.body;
     }
 
@@ -39,12 +36,12 @@ abbrev pub no_row : Row
 no_row = record { kind = TraitSelf; default = None }
 
 abbrev pub no_def : Def
-no_def = record { kind = Function; parent = None; first = 0; count = 0; body = None }
+no_def = record { kind = Function; parent = None; rows = record { from = 0; len = 0 }; body = None }
 
 -- where a part of the marks ends
 abbrev pub end_of : Option Span → ℕ
 end_of None = 0
-end_of (Some s) = s.from + s.len
+end_of (Some s) = past s
 
 -- each row's default is a part of the marks
 abbrev pub Spelled : List Mark → List Row → Type 0
@@ -53,7 +50,7 @@ Spelled marks rows = (i : ℕ) → i < length rows → end_of (slice_index_or ro
 -- the parts lie within the lists
 abbrev pub Within : List Def → List Row → List Mark → Type 0
 Within defs rows marks =
-    ((i : ℕ) → i < length defs → (slice_index_or defs i no_def).first + (slice_index_or defs i no_def).count ≤ length rows)
+    ((i : ℕ) → i < length defs → past (slice_index_or defs i no_def).rows ≤ length rows)
     × ((i : ℕ) → i < length defs → end_of (slice_index_or defs i no_def).body ≤ length marks)
     × Spelled marks rows
 

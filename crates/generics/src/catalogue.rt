@@ -7,7 +7,8 @@ use crate::stored::{Def, Row};
 use definitions::kinds::Mark;
 
 // The declared definitions. Each follows the rules, so no catalogue that breaks them exists. Memory for 64
-// definitions, 512 rows and 2,048 marks is reserved when it is made.
+// definitions, 512 rows and 2,048 marks is reserved when it is made, so that declaring asks for none: that is why
+// rows and marks lie in one list each, and not in lists of their definitions.
 #[derive(Drop)]
 pub struct Catalogue {
     pub(crate) defs: Vec<Def>,

@@ -1,6 +1,6 @@
 // Declaring a definition.
 ghost use Rattle.std.specs.Prelude.{◌≡◌, true, [], ◌∷◌, ◌++◌, length, IfOk};
-ghost use Rattle.generics.specs.Declares.{Left, Ruled, answer, declares, number_of};
+ghost use Rattle.generics.specs.Declares.{Left, Ruled, answer, declares};
 ghost use Rattle.generics.specs.Held.{held};
 ghost use Rattle.generics.specs.Lays.{asked};
 ghost use Rattle.definitions.specs.Follows.{AllRightful};
@@ -8,39 +8,12 @@ ghost use Rattle.definitions.specs.Rules.{Limited, follows, has_room};
 
 use crate::catalogue::Catalogue;
 use crate::lay::{lay_rows, lay_term};
+pub use crate::refusal::DeclareRefusal;
 use crate::rules::{defaults_fit, rows_fit};
 use crate::stored::Def;
 use definitions::kinds::{Declaration, Mark};
+use spans::Span;
 use std::alloc::{AllocError, Global};
-
-// Why a definition is not declared.
-#[derive(Clone, Copy, PartialEq, Eq, Debug)]
-pub enum DeclareRefusal {
-    // A parent where none may be, or one that is no declared trait or impl.
-    Parent,
-    // More than 32 rows, or rows against the rules on Self, impl-trait rows and order.
-    Rows,
-    // A misplaced default.
-    Default,
-    // A default or a body that is no term as it should be, an alias without body, or a body elsewhere.
-    Term,
-    // 64 definitions, 512 rows or 2,048 marks would be passed.
-    Full,
-}
-
-impl DeclareRefusal {
-    pub fn number(self) -> u32
-        ensures { result ≡ number_of self }
-    {
-        match self {
-            DeclareRefusal::Parent => 1,
-            DeclareRefusal::Rows => 2,
-            DeclareRefusal::Default => 3,
-            DeclareRefusal::Term => 4,
-            DeclareRefusal::Full => 5,
-        }
-    }
-}
 
 impl Catalogue {
     // An empty catalogue, with the memory for all that it can hold.
@@ -77,14 +50,16 @@ impl Catalogue {
         ensures held { held self.new ≡ held self.old ++ asked d.entry ∷ [] }
     {
         let number = self.len() as u32;
-        let first = self.rows.len();
+        let rows = Span {
+            from: self.rows.len(),
+            len: d.rows.len(),
+        };
         lay_rows(&mut self.rows, &mut self.marks, d.rows);
         let body = lay_term(&mut self.marks, d.body);
         self.defs.push_reserved(Def {
             kind: d.kind,
             parent: d.parent,
-            first,
-            count: d.rows.len(),
+            rows,
             body,
         });
         number

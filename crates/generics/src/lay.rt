@@ -1,12 +1,14 @@
-// Rows and marks laid behind those that are there.
+// Rows and marks laid behind those that are there. Each function asks for room for what it lays itself; a struct of
+// rows and marks would be taken apart at once, so the lists are parameters.
 ghost use Rattle.std.specs.Prelude.{◌≡◌, ◌+◌, ◌≤◌, ◌++◌, length, vec_len, vec_capacity};
 ghost use Rattle.std.specs.Option.{option_map};
 ghost use Rattle.definitions.specs.Definitions.{default_marks, marks_in};
 ghost use Rattle.generics.specs.Laid.{flat, laid, marks_of, span_at};
 ghost use Rattle.generics.specs.Lays.{params_asked};
 
-use crate::stored::{Row, Span};
+use crate::stored::Row;
 use definitions::kinds::{GenericParam, Mark};
+use spans::Span;
 
 // Appends marks, for which memory is reserved, and answers the part that they are.
 fn lay_marks(marks: &mut Vec<Mark>, new: &[Mark]) -> Span
@@ -27,7 +29,7 @@ fn lay_marks(marks: &mut Vec<Mark>, new: &[Mark]) -> Span
     }
 }
 
-// The same for a default or a body, if there is one.
+// The same for a default or a body, if there is one. No `map`: its closure would not know that there is room.
 pub(crate) fn lay_term(marks: &mut Vec<Mark>, new: Option<&[Mark]>) -> Option<Span>
     requires { vec_len marks.old + marks_in (option_map (λ x. x.now) new) ≤ vec_capacity marks.old }
     ensures items { marks.new.items ≡ marks.old.items ++ marks_of (option_map (λ x. x.now) new.entry) }

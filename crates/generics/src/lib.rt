@@ -5,6 +5,7 @@ pub mod catalogue;
 pub mod declare;
 mod lay;
 pub mod ranks;
+pub mod refusal;
 mod rules;
 pub mod stored;
 pub mod terms;

@@ -34,11 +34,7 @@ impl<'a> Ranked for GenericParam<'a> {
 pub fn count_ranked<R: Ranked>(rows: &[R], rank: usize) -> usize
     ensures { result ≡ ranked rank (map R.Ranked.shown rows.now) }
 {
-    let mut count = 0;
-    for row in rows {
-        if row.row_kind().rank() == rank {
-            count += 1;
-        }
-    }
-    count
+    rows.iter()
+        .filter(|row| row.row_kind().rank() == rank)
+        .count()
 }

@@ -19,19 +19,19 @@ pub returns-then-count_ranked-self_rows : goal.returns-then-count_ranked-self_ro
 returns-then-count_ranked-self_rows c =
     let gs = c.args.rows.now in
     let k = c.args.kind in
-    fails_third _ _ _ _ (le-leb (length gs) 32 c.if-rows-gt32.false) (sym c.if-not-rows_in_order.ensures) (ne_eqb (ranked 0 (map kind_in gs)) (selves_of k) (λ e. c.if-count_ranked-self_rows.true (c.count_ranked.ensures ∙ e ∙ sym c.self_rows.ensures))) ∙ sym (rows_by k gs)
+    fails_third _ _ _ _ (le-leb (length gs) 32 c.if-rows-gt32.false) (sym c.if-not-rows_in_order.ensures) (ne_eqb (ranked 0 (map kind_in gs)) (selves_of k) (λ e. c.if-count_ranked-self_rows.true ((c.count_ranked.ensures ∙ ap (λ n. ranked n (map kind_in gs)) c.rank.ensures) ∙ e ∙ sym c.self_rows.ensures))) ∙ sym (rows_by k gs)
 
 pub returns-then-is_function : goal.returns-then-is_function
 returns-then-is_function c =
     let gs = c.args.rows.now in
     let k = c.args.kind in
     let t = c.if-is_function.ensures in
-    let e : eqb (ranked 0 (map kind_in gs)) (selves_of k) ≡ true = eq-eqb _ _ (sym c.count_ranked.ensures ∙ c.if-count_ranked-self_rows.false ∙ c.self_rows.ensures) in
+    let e : eqb (ranked 0 (map kind_in gs)) (selves_of k) ≡ true = eq-eqb _ _ (sym (c.count_ranked.ensures ∙ ap (λ n. ranked n (map kind_in gs)) c.rank.ensures) ∙ c.if-count_ranked-self_rows.false ∙ c.self_rows.ensures) in
     (c.if-is_function.true ∙ sym (or_left (is_function k) (eqb (ranked 3 (map kind_in gs)) 0) (sym t))) ∙ fourth _ _ _ _ (le-leb (length gs) 32 c.if-rows-gt32.false) (sym c.if-not-rows_in_order.ensures) e ∙ sym (rows_by k gs)
 
 pub returns-else-is_function : goal.returns-else-is_function
 returns-else-is_function c =
     let gs = c.args.rows.now in
     let k = c.args.kind in
-    let e : eqb (ranked 0 (map kind_in gs)) (selves_of k) ≡ true = eq-eqb _ _ (sym c.count_ranked.ensures ∙ c.if-count_ranked-self_rows.false ∙ c.self_rows.ensures) in
-    (ap (λ n. eqb n 0) c.count_ranked-else-is_function.ensures ∙ ap (λ b. b || eqb (ranked 3 (map kind_in gs)) 0) c.if-is_function.ensures) ∙ fourth _ _ _ _ (le-leb (length gs) 32 c.if-rows-gt32.false) (sym c.if-not-rows_in_order.ensures) e ∙ sym (rows_by k gs)
+    let e : eqb (ranked 0 (map kind_in gs)) (selves_of k) ≡ true = eq-eqb _ _ (sym (c.count_ranked.ensures ∙ ap (λ n. ranked n (map kind_in gs)) c.rank.ensures) ∙ c.if-count_ranked-self_rows.false ∙ c.self_rows.ensures) in
+    (ap (λ n. eqb n 0) (c.count_ranked-else-is_function.ensures ∙ ap (λ n. ranked n (map kind_in gs)) c.rank-else-is_function.ensures) ∙ ap (λ b. b || eqb (ranked 3 (map kind_in gs)) 0) c.if-is_function.ensures) ∙ fourth _ _ _ _ (le-leb (length gs) 32 c.if-rows-gt32.false) (sym c.if-not-rows_in_order.ensures) e ∙ sym (rows_by k gs)

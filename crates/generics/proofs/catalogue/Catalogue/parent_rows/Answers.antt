@@ -1,14 +1,15 @@
-use Rattle.std.proofs.Common.{vec_items, sym, ap, ◌∙◌}
-use Rattle.definitions.specs.Definitions.{kinds_of, parent_rows}
-use Rattle.generics.specs.Held.{held, row_kinds}
-use Rattle.generics.proofs.Found.{kinds_at}
+use Rattle.std.proofs.Common.{◌≡◌, map, vec_items, sym, ap, ◌∙◌, rules}
+use mathlib.Core.List.{map-map}
+use Rattle.definitions.specs.declared.kinds.Kind.{Kind}
+use Rattle.definitions.specs.Definitions.{Param, kind_of, kinds_of, parent_rows}
+use Rattle.generics.specs.Held.{held}
+use Rattle.generics.specs.Lays.{param_of}
 use Rattle.generics.proofs.catalogue.Catalogue.parent_rows.Goals as goal
 
-pub returns-in-Some : goal.returns-in-Some
-returns-in-Some c =
+-- the kinds are those of the parameters
+pub returns-clause-kinds : goal.returns-clause-kinds
+returns-clause-kinds c =
     let cat = c.args.self.now in
-    record {
-      kinds = ap row_kinds c.own_rows.ensures.rows ∙ kinds_at (vec_items cat.defs) (vec_items cat.rows) (vec_items cat.marks) c.in-Some.parent ∙ ap (λ p. kinds_of (parent_rows (held cat) p)) (sym c.in-Some.is);
-      params = c.own_rows.ensures.params ∙ ap (parent_rows (held cat)) (sym c.in-Some.is);
-      within = c.own_rows.ensures.within;
-    }
+    let f : Param → Kind = λ p. kind_of p.kind in
+    let params : map (param_of (vec_items cat.marks)) c.map_or.result.now ≡ parent_rows (held cat) c.args.parent = search rules in
+    sym (map-map f (param_of (vec_items cat.marks)) c.map_or.result.now) ∙ ap kinds_of params
