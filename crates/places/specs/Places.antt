@@ -1,5 +1,6 @@
 -- What a reader of the catalogue learns of a definition and of its places. Assumes nothing.
-use Rattle.std.specs.Prelude.{ℕ, zero, suc, ◌-◌, Bool, true, false, cond, List, [], ◌∷◌, length, take, is_some, Some, None, Option, nat_lt}
+use Rattle.std.specs.Prelude.{ℕ, ◌-◌, Bool, true, false, cond, List, length, take, is_some, Some, None, Option, nat_lt}
+use Rattle.std.specs.List.{slice_get}
 use Rattle.std.specs.Option.{option_map}
 use Rattle.definitions.specs.declared.kinds.GenericParamId.{GenericParamId}
 use Rattle.definitions.specs.declared.kinds.Mark.{Mark}
@@ -8,19 +9,13 @@ use Rattle.places.specs.declared.view.Provenance.{Provenance}
 use Rattle.definitions.specs.Definitions.{Param, Definition, is_lifetime, definition_at, row_kinds_of, parent_rows, whole_rows}
 use Rattle.definitions.specs.Rules.{ranked, tally}
 
--- the element at a position, if there is one
-abbrev pub nth : {X : Type 0} → List X → ℕ → Option X
-nth [] i = None
-nth (x ∷ xs) zero = Some x
-nth (x ∷ xs) (suc i) = nth xs i
-
 -- the definition that a number names, if it is declared
 abbrev pub declared_at : List Definition → ℕ → Option Definition
-declared_at ds d = nth ds d
+declared_at ds d = slice_get ds d
 
 -- the parameter at a place of a definition's whole list, if the definition and the place are there
 abbrev pub param_at : List Definition → ℕ → ℕ → Option Param
-param_at ds d place = nth (whole_rows ds (definition_at ds d)) place
+param_at ds d place = slice_get (whole_rows ds (definition_at ds d)) place
 
 abbrev pub default_of : Option Param → Option (List Mark)
 default_of None = None
@@ -42,7 +37,7 @@ alike b ks = tally (λ (k : RowKind). same_bool (is_lifetime k) b) ks
 
 -- the name of a definition's own row: lifetimes are numbered alone, all other rows together
 abbrev pub name_in : ℕ → List RowKind → ℕ → Option GenericParamId
-name_in d rows i = option_map (λ (k : RowKind). record { def = d; lifetime = is_lifetime k; local = alike (is_lifetime k) (take i rows) }) (nth rows i)
+name_in d rows i = option_map (λ (k : RowKind). record { def = d; lifetime = is_lifetime k; local = alike (is_lifetime k) (take i rows) }) (slice_get rows i)
 
 -- the name of the parameter at a place; a parent's parameter keeps its parent's name
 abbrev pub name_from : List Definition → ℕ → Option ℕ → ℕ → Option GenericParamId

@@ -1,8 +1,8 @@
 // The parameters of one definition.
-ghost use Rattle.std.specs.Prelude.{◌≡◌, ◌≤◌, length, IfSome};
+ghost use Rattle.std.specs.Prelude.{◌≡◌, length};
 ghost use Rattle.std.specs.Option.{option_map};
 ghost use Rattle.definitions.specs.Definitions.{kind_of, parent_rows, whole_rows};
-ghost use Rattle.generics.specs.Lays.{end_of, param_of, spelled};
+ghost use Rattle.generics.specs.Lays.{param_of};
 ghost use Rattle.places.specs.Places.{declared_at, default_of, name_at, param_at, provenance};
 ghost use Rattle.places.specs.Views.{among, meant};
 
@@ -10,7 +10,7 @@ use crate::counts::{count_defaulted, name_in};
 use definitions::kinds::{GenericDefKind, GenericParamId, Kind, Mark, RowKind};
 use generics::catalogue::Catalogue;
 use generics::ranks::count_ranked;
-use generics::stored::{Row, Span};
+use generics::stored::Row;
 
 // The parameters of the definition with this number, its parent's first; none where it is not declared. A place
 // is a position among them.
@@ -40,7 +40,7 @@ impl<'a> Generics<'a> {
         Generics { cat, def }
     }
 
-    // What the definition is, if it is declared.
+    // What the definition is, if it is declared. No `then`: its proof did not close.
     pub fn kind(&self) -> Option<GenericDefKind>
         ensures { result ≡ option_map (λ d. d.kind) (declared_at (among self.now) self.now.def) }
     {
@@ -79,21 +79,16 @@ impl<'a> Generics<'a> {
         self.len_parent() + self.len_self()
     }
 
-    // The row at a place, as it is held.
+    // The row at a place, as it is held. The split is that of `Scope::kind_at`, over rows of another type and for the row
+    // itself: one function for both would take two of each.
     fn row_held(&self, place: usize) -> Option<Row>
         ensures param { option_map (param_of self.now.cat.now.marks.items) result ≡ param_at (among self.now) self.now.def place }
-        ensures within { IfSome result (λ row. end_of row.default ≤ length self.now.cat.now.marks.items) }
     {
         let parent = self.cat.parent_rows(self.parent());
         let own = self.cat.own_rows(self.def);
-        let before = parent.len();
-        if place < before {
-            return Some(parent[place]);
-        }
-        if place - before < own.len() {
-            Some(own[place - before])
-        } else {
-            None
+        match parent.get(place) {
+            Some(row) => Some(*row),
+            None => own.get(place - parent.len()).copied(),
         }
     }
 
@@ -101,49 +96,30 @@ impl<'a> Generics<'a> {
     pub fn row_kind(&self, place: usize) -> Option<RowKind>
         ensures { result ≡ option_map (λ p. p.kind) (param_at (among self.now) self.now.def place) }
     {
-        match self.row_held(place) {
-            Some(row) => Some(row.kind),
-            None => None,
-        }
+        self.row_held(place).map(|row| row.kind)
     }
 
     // What the parameter at a place takes.
     pub fn kind_at(&self, place: usize) -> Option<Kind>
         ensures { result ≡ option_map (λ p. kind_of p.kind) (param_at (among self.now) self.now.def place) }
     {
-        match self.row_held(place) {
-            Some(row) => Some(row.kind.kind()),
-            None => None,
-        }
-    }
-
-    // A part of the catalogue's marks.
-    fn part(&self, span: Option<Span>) -> Option<&'a [Mark]>
-        requires { end_of span ≤ length self.now.cat.now.marks.items }
-        ensures { option_map (λ x. x.now) result ≡ spelled self.now.cat.now.marks.items span }
-    {
-        let marks = self.cat.marks();
-        match span {
-            Some(Span { from, len }) => Some(&marks[from..from + len]),
-            None => None,
-        }
+        self.row_held(place).map(|row| row.kind.kind())
     }
 
     // The marks of the default at a place, a part of the catalogue's own, if it has one.
     pub fn default_at(&self, place: usize) -> Option<&'a [Mark]>
         ensures { option_map (λ x. x.now) result ≡ default_of (param_at (among self.now) self.now.def place) }
     {
-        match self.row_held(place) {
-            Some(row) => self.part(row.default),
-            None => None,
-        }
+        let span = self.row_held(place)?.default?;
+        Some(span.of(self.cat.marks()))
     }
 
     // The marks of an alias's body; none for any other definition.
     pub fn body(&self) -> Option<&'a [Mark]>
         ensures { option_map (λ x. x.now) result ≡ (meant self.now).body }
     {
-        self.part(self.cat.def_at(self.def).body)
+        let span = self.cat.def_at(self.def).body?;
+        Some(span.of(self.cat.marks()))
     }
 
     // The name of the parameter at a place, if there is one.
@@ -171,11 +147,12 @@ impl<'a> Generics<'a> {
         let rows = self.cat.own_rows(self.def);
         Provenance {
             parent: self.len_parent(),
-            trait_self: count_ranked(rows, 0),
-            lifetimes: count_ranked(rows, 1),
-            named: count_ranked(rows, 2),
+            trait_self: count_ranked(rows, RowKind::TraitSelf.rank()),
+            lifetimes: count_ranked(rows, RowKind::Lifetime.rank()),
+            // Types and constants rank alike.
+            named: count_ranked(rows, RowKind::Type.rank()),
             defaulted: count_defaulted(rows),
-            impl_traits: count_ranked(rows, 3),
+            impl_traits: count_ranked(rows, RowKind::ImplTrait.rank()),
         }
     }
 }

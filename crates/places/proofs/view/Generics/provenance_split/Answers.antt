@@ -12,4 +12,4 @@ pub returns : goal.returns
 returns c =
     let marks = vec_items c.args.self.now.cat.now.marks in
     let k = kinds_meant marks _ _ c.own_rows-rows.ensures.params in
-    all_same c.len_parent.ensures (c.count_ranked.ensures ∙ ap (ranked 0) k) (c.count_ranked-2.ensures ∙ ap (ranked 1) k) (c.count_ranked-3.ensures ∙ ap (ranked 2) k) (c.count_defaulted.ensures marks ∙ ap defaulted c.own_rows-rows.ensures.params) (c.count_ranked-4.ensures ∙ ap (ranked 3) k)
+    all_same c.len_parent.ensures (c.count_ranked.ensures ∙ rw c.rank.ensures (ap (ranked 0) k)) (c.count_ranked-2.ensures ∙ rw c.rank-2.ensures (ap (ranked 1) k)) (c.count_ranked-3.ensures ∙ rw c.rank-3.ensures (ap (ranked 2) k)) (c.count_defaulted.ensures marks ∙ ap defaulted c.own_rows-rows.ensures.params) (c.count_ranked-4.ensures ∙ rw c.rank-4.ensures (ap (ranked 3) k))
