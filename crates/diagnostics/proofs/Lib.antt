@@ -1,3 +1,2 @@
 pub mod Capacities
-pub mod Places
 pub mod Tellings

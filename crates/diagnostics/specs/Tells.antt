@@ -1,5 +1,5 @@
 -- What a report list shows, and what telling and clearing do to it.
-use Rattle.std.specs.Prelude.{◌≡◌, ℕ, zero, suc, ◌+◌, ◌<◌, List, [], ◌∷◌, ◌++◌, length, Some, None, Option}
+use Rattle.std.specs.Prelude.{◌≡◌, ℕ, ◌+◌, ◌<◌, List, [], ◌∷◌, ◌++◌, length}
 use Rattle.diagnostics.specs.declared.reports.PathLoweringDiagnostic.{PathLoweringDiagnostic}
 
 -- the reports told, in order, how many more can be told, and how many entries can still be made
@@ -31,12 +31,6 @@ pub record Cleared (v w : View) : Type 0 where
   pub told : w.told ≡ []
   pub room : w.room ≡ length v.told + v.room
   pub stock : w.stock ≡ v.stock
-
--- the i-th of the reports
-abbrev pub report_at : List PathLoweringDiagnostic → ℕ → Option PathLoweringDiagnostic
-report_at [] i = None
-report_at (r ∷ rs) zero = Some r
-report_at (r ∷ rs) (suc i) = report_at rs i
 
 -- told plus room
 abbrev pub capacity_of : View → ℕ

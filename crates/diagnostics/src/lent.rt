@@ -1,14 +1,28 @@
-ghost use Rattle.std.specs.Prelude.{◌≤◌, length};
+// A report list in the caller's memory.
+ghost use Rattle.std.specs.Prelude.{length};
+ghost use Rattle.diagnostics.specs.Tells.{Fresh};
+ghost use Rattle.diagnostics.specs.Lists.{places_view};
 
+use crate::held::{Places, Reports};
 use crate::reports::PathLoweringDiagnostic;
 
-mod list;
+// A report list in the caller's memory. The reports are read from the list; what the memory holds afterwards is not
+// promised.
+pub type LentReports<'a> = Reports<&'a mut [PathLoweringDiagnostic]>;
 
-// A report list in the caller's memory, of whose places the first `count` were told. The reports are read from the
-// list; what the memory holds afterwards is not promised.
-#[derive(Drop)]
-pub struct LentReports<'a> {
-    places: &'a mut [PathLoweringDiagnostic],
-    count: usize,
-    ghost within: { count ≤ length places.now },
+impl Places for &mut [PathLoweringDiagnostic] {
+    ghost size = { λ places. length places.now };
+
+    fn put(&mut self, i: usize, report: PathLoweringDiagnostic) {
+        self[i] = report;
+    }
+}
+
+impl<'a> LentReports<'a> {
+    // Nothing told, and room for as many reports as there are places.
+    pub fn new(places: &'a mut [PathLoweringDiagnostic]) -> LentReports<'a>
+        ensures { Fresh (length places.old) (places_view result.places.now result.count) }
+    {
+        Reports { places, count: 0 }
+    }
 }

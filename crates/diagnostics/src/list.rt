@@ -1,5 +1,5 @@
-ghost use Rattle.std.specs.Prelude.{◌≡◌, ℕ, length};
-ghost use Rattle.diagnostics.specs.Tells.{View, Told, Cleared, report_at};
+ghost use Rattle.std.specs.Prelude.{◌≡◌, ℕ, length, slice_get};
+ghost use Rattle.diagnostics.specs.Tells.{View, Told, Cleared};
 
 use crate::reports::PathLoweringDiagnostic;
 
@@ -28,5 +28,5 @@ pub trait ReportList {
 
     // The i-th report told, from 0.
     fn report(&self, i: usize) -> Option<PathLoweringDiagnostic>
-        ensures { result ≡ report_at (view self.now).told i };
+        ensures { result ≡ slice_get (view self.now).told i };
 }

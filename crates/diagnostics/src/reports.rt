@@ -1,5 +1,9 @@
 // What can be wrong with the generic arguments of a path.
+ghost use Rattle.std.specs.Prelude.{Some};
+ghost use Rattle.diagnostics.specs.Words.{prohibited_words};
+
 use definitions::kinds::GenericParamId;
+use std::fmt;
 
 // Why a segment may have no generic arguments.
 #[derive(Clone, Copy, PartialEq, Eq, Debug)]
@@ -8,6 +12,19 @@ pub enum GenericArgsProhibitedReason {
     TyParam,
     SelfTy,
     PrimitiveTy,
+}
+
+impl fmt::Display for GenericArgsProhibitedReason {
+    ghost output = { λ reason. Some (prohibited_words reason) };
+
+    fn fmt<W: fmt::Write>(&self, f: &mut fmt::Formatter<W>) -> fmt::Result {
+        f.write_str(match self {
+            GenericArgsProhibitedReason::Module => "a module",
+            GenericArgsProhibitedReason::TyParam => "a type parameter",
+            GenericArgsProhibitedReason::SelfTy => "the type itself",
+            GenericArgsProhibitedReason::PrimitiveTy => "a built-in type",
+        })
+    }
 }
 
 // Where generic arguments stand: on a segment of the path, as in `Foo<A>`, or on an associated type that is

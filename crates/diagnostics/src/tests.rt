@@ -62,3 +62,10 @@ fn lent_list(rt: HostRuntime) {
     assert_eq!(rt; two.stock(), 0);
     assert_eq!(rt; capacity(&two), 2);
 }
+
+#[test]
+fn words(rt: HostRuntime) {
+    let reason = GenericArgsProhibitedReason::PrimitiveTy;
+    let text = format!(in rt.alloc(); "{reason}").expect(&rt, "memory");
+    assert_eq!(rt; text.as_str(), "a built-in type");
+}
