@@ -36,8 +36,8 @@ on n (Some list) (Some y) i why (inl e) = record { at = cc; list = refl; reason 
 on n (Some list) (Some y) i why (inr h) = absurd h
 
 on_back : (n : ℕ) (a : Option GenericArgs) (w : Option GenericArgsProhibitedReason) (i : ℕ) (why : GenericArgsProhibitedReason) → On n a w i why → Among (GenericArgsProhibited i why) (report_on n a w)
-on_back n None w i why o = absurd (let l = o.list in let z : ◌≡◌ {A = ℕ} 0 1 = cc in omega arith)
-on_back n (Some list) None i why o = absurd (let l = o.reason in let z : ◌≡◌ {A = ℕ} 0 1 = cc in omega arith)
+on_back n None w i why o = absurd (let l = o.list in grind arith)
+on_back n (Some list) None i why o = absurd (let l = o.reason in grind arith)
 on_back n (Some list) (Some y) i why o = let l = o.reason in let e = o.at in inl (cc)
 
 -- module k of those from n on
@@ -64,7 +64,7 @@ on_module n (x ∷ xs) (suc m) i why h =
 
 on_module_back : (n : ℕ) (xs : List PathSegment) (m i k : ℕ) → i ≡ n + k → k < m → is_some (list_at xs k) ≡ true → Among (GenericArgsProhibited i Module) (reports_on n (take m xs))
 on_module_back n xs zero i k e h l = absurd (omega arith)
-on_module_back n [] (suc m) i k e h l = absurd (let z : ◌≡◌ {A = ℕ} 0 1 = cc in omega arith)
+on_module_back n [] (suc m) i k e h l = absurd (grind arith)
 on_module_back n (x ∷ xs) (suc m) i zero e h l =
     among_left (GenericArgsProhibited i Module) (report_on n x.args (Some Module)) (reports_on (n + 1) (take m xs)) (on_back n x.args (Some Module) i Module (record { at = omega arith; list = l; reason = refl }))
 on_module_back n (x ∷ xs) (suc m) i (suc k) e h l =

@@ -1,11 +1,14 @@
-ghost use Rattle.std.specs.Prelude.{◌≡◌, length, MatchResult};
+ghost use Rattle.std.specs.Prelude.{◌≡◌, ◌≤◌, length, IfOk, MatchResult, Some};
 ghost use Rattle.diagnostics.specs.Tells.{View, ToldAll};
 ghost use Rattle.path.specs.Checks.{refusal_number, passes, refused, check_answer, check_rule};
 ghost use Rattle.path.specs.Prohibits.{prohibited, Exactly};
+ghost use Rattle.path.specs.Words.{refusal_words};
 
-use crate::prohibited::{tell_modules, tell_resolved};
+use crate::prohibited::tell_prohibited;
 use crate::segments::{PathSegment, Resolution};
 use diagnostics::list::ReportList;
+use std::error::Error;
+use std::fmt;
 
 // Why a path was not checked: it has more than 16 segments; it has segments, and the remaining index is 0 or
 // above their number; or the report list has less room than the path has segments.
@@ -16,17 +19,31 @@ pub enum CheckRefusal {
     NoRoom,
 }
 
-impl CheckRefusal {
-    pub fn number(self) -> u32
-        ensures { result ≡ refusal_number self }
-    {
-        match self {
+impl From<CheckRefusal> for u32 {
+    ghost from_gives = { λ refusal number. number ≡ refusal_number refusal };
+
+    fn from(refusal: CheckRefusal) -> u32 {
+        match refusal {
             CheckRefusal::ManySegments => 11,
             CheckRefusal::BadIndex => 12,
             CheckRefusal::NoRoom => 13,
         }
     }
 }
+
+impl fmt::Display for CheckRefusal {
+    ghost output = { λ refusal. Some (refusal_words refusal) };
+
+    fn fmt<W: fmt::Write>(&self, f: &mut fmt::Formatter<W>) -> fmt::Result {
+        f.write_str(match self {
+            CheckRefusal::ManySegments => "the path has more than 16 segments",
+            CheckRefusal::BadIndex => "the path has no such segment",
+            CheckRefusal::NoRoom => "there is no room for its reports",
+        })
+    }
+}
+
+impl Error for CheckRefusal {}
 
 // A path that was checked, with its resolved segment. Only `check_path` makes one, and it can be neither copied
 // nor cloned, so that what takes one by value is called once for each check.
@@ -49,7 +66,8 @@ fn resolved_segment(
     remaining: Option<usize>,
     room: usize,
 ) -> Result<usize, CheckRefusal>
-    ensures { MatchResult result (λ s. passes s ≡ check_rule count remaining room) (λ e. refused (refusal_number e) ≡ check_rule count remaining room) }
+    ensures answered { MatchResult result (λ s. passes s ≡ check_rule count remaining room) (λ e. refused (refusal_number e) ≡ check_rule count remaining room) }
+    ensures enough { IfOk result (λ _. count ≤ room) }
 {
     if count > 16 {
         return Err(CheckRefusal::ManySegments);
@@ -82,7 +100,6 @@ pub fn check_path<R: ReportList>(
     ensures exact { Exactly segments.now resolution (prohibited segments.now resolution) }
 {
     let segment = resolved_segment(segments.len(), resolution.remaining, reports.room())?;
-    tell_modules(&segments[0..segment], reports);
-    tell_resolved(segments, segment, resolution.kind, reports);
+    tell_prohibited(segments, segment, resolution.kind, reports);
     Ok(CheckedPath { segment })
 }

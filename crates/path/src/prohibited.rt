@@ -1,4 +1,4 @@
-ghost use Rattle.std.specs.Prelude.{◌≡◌, ◌<◌, ◌≤◌, length, Some};
+ghost use Rattle.std.specs.Prelude.{◌≡◌, ◌<◌, ◌≤◌, ◌++◌, length, take, Some};
 ghost use Rattle.diagnostics.specs.Tells.{View, ToldAll};
 ghost use Rattle.path.specs.Prohibits.{list_at, reason_of, report_on, reports_on};
 
@@ -34,13 +34,20 @@ fn tell_list<R: ReportList>(
     }
 }
 
-// Tells a report about each module that has a list.
-pub(crate) fn tell_modules<R: ReportList>(modules: &[PathSegment], reports: &mut R)
-    requires short { length modules.now ≤ 16 }
-    requires room { length modules.now ≤ (R.ReportList.view reports.old).room }
-    ensures { ToldAll (reports_on 0 modules.now) (R.ReportList.view reports.old) (R.ReportList.view reports.new) }
+// Tells a report about each module that has a list, and about the resolved segment if it has one and may have none.
+pub(crate) fn tell_prohibited<R: ReportList>(
+    segments: &[PathSegment],
+    resolved: usize,
+    kind: TypeNs,
+    reports: &mut R,
+)
+    requires short { length segments.now ≤ 16 }
+    requires inside { resolved ≤ length segments.now }
+    requires room { length segments.now ≤ (R.ReportList.view reports.old).room }
+    ensures { ToldAll (reports_on 0 (take resolved segments.now) ++ report_on resolved (list_at segments.now resolved) (reason_of kind)) (R.ReportList.view reports.old) (R.ReportList.view reports.new) }
 {
-    for (i, module) in modules.iter().enumerate() {
+    // A `for`, since it tells; the index is the segment's number.
+    for (i, module) in segments[..resolved].iter().enumerate() {
         tell_list(
             *module,
             i as u32,
@@ -48,22 +55,7 @@ pub(crate) fn tell_modules<R: ReportList>(modules: &[PathSegment], reports: &mut
             reports,
         );
     }
-}
-
-// Tells a report about the resolved segment, if there is one, and it has a list and may have none.
-pub(crate) fn tell_resolved<R: ReportList>(
-    segments: &[PathSegment],
-    resolved: usize,
-    kind: TypeNs,
-    reports: &mut R,
-)
-    requires short { length segments.now ≤ 16 }
-    requires room { resolved < length segments.now → 0 < (R.ReportList.view reports.old).room }
-    ensures { ToldAll (report_on resolved (list_at segments.now resolved) (reason_of kind)) (R.ReportList.view reports.old) (R.ReportList.view reports.new) }
-{
-    if resolved < segments.len() {
-        if let Some(reason) = reason_of(kind) {
-            tell_list(segments[resolved], resolved as u32, reason, reports);
-        }
+    if let (Some(segment), Some(reason)) = (segments.get(resolved), reason_of(kind)) {
+        tell_list(*segment, resolved as u32, reason, reports);
     }
 }

@@ -1,4 +1,5 @@
-use crate::checked::check_path;
+use crate::args::Form;
+use crate::checked::{CheckRefusal, check_path};
 use crate::segments::{GenericArgs, PathSegment, Resolution, TypeNs};
 use diagnostics::lent::LentReports;
 use diagnostics::list::ReportList;
@@ -26,10 +27,9 @@ fn answer<R: ReportList>(
     remaining: Option<usize>,
     reports: &mut R,
 ) -> Result<usize, u32> {
-    match check_path(segments, Resolution { kind, remaining }, reports) {
-        Ok(path) => Ok(path.segment()),
-        Err(refusal) => Err(refusal.number()),
-    }
+    check_path(segments, Resolution { kind, remaining }, reports)
+        .map(|path| path.segment())
+        .map_err(u32::from)
 }
 
 #[test]
@@ -104,5 +104,16 @@ fn reports(rt: HostRuntime) {
     assert_eq!(rt;
         list.report(3),
         Some(prohibited(0, GenericArgsProhibitedReason::TyParam))
+    );
+}
+
+#[test]
+fn words(rt: HostRuntime) {
+    let refusal = CheckRefusal::BadIndex;
+    let form = Form::Placeholder;
+    let text = format!(in rt.alloc(); "{refusal}: {form}").expect(&rt, "memory");
+    assert_eq!(rt;
+        text.as_str(),
+        "the path has no such segment: a placeholder"
     );
 }
