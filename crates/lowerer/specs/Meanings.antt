@@ -10,7 +10,7 @@ use Rattle.definitions.specs.Terms.{same_kind}
 use Rattle.places.specs.Places.{default_of, param_at}
 use Rattle.path.specs.declared.args.GenericArg.{GenericArg}
 use Rattle.lowerer.specs.declared.fit.Fit.{Fit}
-use Rattle.lowerer.specs.declared.fit.Fit.TheVariants.{Agrees, TypeLikeConst, Unfit}
+use Rattle.lowerer.specs.declared.fit.Fit.TheVariants.{Agrees, TypeLikeConst}
 use Rattle.lowerer.specs.declared.meaning.Meaning.{Meaning}
 use Rattle.lowerer.specs.declared.meaning.ParamPlace.{ParamPlace}
 use Rattle.lowerer.specs.declared.meaning.Source.{Source}
@@ -30,10 +30,10 @@ at_row None s = means TypeKind Unknown
 at_row (Some k) s = means (kind_of k) s
 
 -- a written argument is supplied with its handle where it agrees with the row as it is written
-abbrev pub supplied_if : Fit → ℕ → Source
-supplied_if Agrees h = Supplied h
-supplied_if TypeLikeConst h = Unknown
-supplied_if Unfit h = Unknown
+abbrev pub supplied_if : Option Fit → ℕ → Source
+supplied_if None h = Unknown
+supplied_if (Some Agrees) h = Supplied h
+supplied_if (Some TypeLikeConst) h = Unknown
 
 abbrev pub supplied_to : Option RowKind → GenericArg → Source
 supplied_to None a = Unknown

@@ -16,17 +16,7 @@ use places::view::Generics;
 fn are_alike<E: Entry>(generics: Generics, entries: &[E]) -> bool
     ensures { result ≡ same_kinds (kinds_by E.Entry.means entries.now) (kinds_of (take (length entries.now) (whole_rows (among generics.entry) (meant generics.entry)))) }
 {
-    for (i, entry) in entries.iter().enumerate() {
-        match generics.kind_at(i) {
-            Some(kind) => {
-                if !entry.meaning().kind.same(kind) {
-                    return false;
-                }
-            }
-            None => return false,
-        }
-    }
-    true
+    entries.iter().enumerate().all(|(i, entry)| Some(entry.meaning().kind) == generics.kind_at(i))
 }
 
 // Whether the entries fill the places before the row, each of its place's kind.
@@ -34,14 +24,12 @@ pub fn fill_before<E: Entry>(cat: &Catalogue, row: ParamPlace, preceding: &[E]) 
     ensures { result ≡ fills (held cat.now) row (kinds_by E.Entry.means preceding.now) }
 {
     let generics = Generics::of(cat, row.def);
-    if preceding.len() != row.place.min(generics.len()) {
-        return false;
-    }
-    are_alike(generics, preceding)
+    preceding.len() == row.place.min(generics.len()) && are_alike(generics, preceding)
 }
 
 // The marks of the default that an inferred entry stands for, if it stands for one: inference is off, the row has a
 // default, and the entries fill the places before it.
+#[tactic(auto, using(crate::proofs::Defaulting::default_exactly))]
 pub fn default_for<'a, E: Entry>(
     cat: &'a Catalogue,
     row: ParamPlace,
@@ -51,17 +39,7 @@ pub fn default_for<'a, E: Entry>(
     ensures marks { option_map (λ x. x.now) result ≡ default_for (held cat.now) row infer (kinds_by E.Entry.means preceding.now) }
     ensures exactly { DefaultExactly }
 {
-    if infer {
-        return None;
-    }
-    match Generics::of(cat, row.def).default_at(row.place) {
-        Some(marks) => {
-            if fill_before(cat, row, preceding) {
-                Some(marks)
-            } else {
-                None
-            }
-        }
-        None => None,
-    }
+    Generics::of(cat, row.def)
+        .default_at(row.place)
+        .filter(|_| !infer && fill_before(cat, row, preceding))
 }

@@ -5,12 +5,11 @@ ghost use Rattle.lowerer.specs.Fits.{fit_of, is_type_form};
 use definitions::kinds::RowKind;
 use path::args::Form;
 
-// How an argument fits a row: as it is written, as a constant though it is written like a type, or not at all.
+// How an argument fits a row: as it is written, or as a constant though it is written like a type.
 #[derive(Clone, Copy, PartialEq, Eq, Debug)]
 pub enum Fit {
     Agrees,
     TypeLikeConst,
-    Unfit,
 }
 
 // Whether the argument is written like a type.
@@ -21,31 +20,19 @@ pub fn is_type_form(form: Form) -> bool
 }
 
 impl Fit {
-    // The one place that says which argument fits which row.
-    pub fn of(form: Form, row: RowKind) -> Fit
+    // The one place that says which argument fits which row, and how.
+    pub fn of(form: Form, row: RowKind) -> Option<Fit>
         ensures { result ≡ fit_of form row }
     {
         match row {
-            RowKind::Lifetime => {
-                if matches!(form, Form::Lifetime) {
-                    Fit::Agrees
-                } else {
-                    Fit::Unfit
-                }
-            }
-            RowKind::TraitSelf | RowKind::Type => {
-                if is_type_form(form) {
-                    Fit::Agrees
-                } else {
-                    Fit::Unfit
-                }
-            }
+            RowKind::Lifetime => (form == Form::Lifetime).then_some(Fit::Agrees),
+            RowKind::TraitSelf | RowKind::Type => is_type_form(form).then_some(Fit::Agrees),
             RowKind::Const => match form {
-                Form::Constant => Fit::Agrees,
-                Form::Path | Form::Placeholder => Fit::TypeLikeConst,
-                Form::Lifetime | Form::Type => Fit::Unfit,
+                Form::Constant => Some(Fit::Agrees),
+                Form::Path | Form::Placeholder => Some(Fit::TypeLikeConst),
+                Form::Lifetime | Form::Type => None,
             },
-            RowKind::ImplTrait => Fit::Unfit,
+            RowKind::ImplTrait => None,
         }
     }
 }

@@ -10,7 +10,8 @@ use path::args::GenericArg;
 use places::view::Generics;
 
 // Where an entry comes from: a written argument with its handle, the Self type that was handed over with its handle,
-// the row's default, nowhere, the parent's own parameter, or elision with the region that it puts in.
+// the row's default, nowhere, the parent's own parameter, or elision with the region that it puts in. Nowhere is a
+// source like the others: an entry is made for it, and told.
 #[derive(Clone, Copy, PartialEq, Eq, Debug)]
 pub enum Source {
     Supplied(u32),
@@ -29,7 +30,8 @@ pub struct Meaning {
 }
 
 // A row, by its definition and its place in that definition's whole list. It is none of a catalogue's where the
-// definition is not declared there or its whole list is not so long.
+// definition is not declared there or its whole list is not so long. It holds no catalogue, since entries keep rows
+// where none is lent; so catalogue and row are two parameters.
 #[derive(Clone, Copy, PartialEq, Eq, Debug)]
 pub struct ParamPlace {
     pub def: u32,
@@ -66,12 +68,9 @@ impl Meaning {
     pub fn provided(cat: &Catalogue, row: ParamPlace, arg: GenericArg) -> Meaning
         ensures { result ≡ provided_as (held cat.now) row arg }
     {
-        let source = match row.row_kind(cat) {
-            Some(kind) => match Fit::of(arg.form, kind) {
-                Fit::Agrees => Source::Supplied(arg.handle),
-                Fit::TypeLikeConst | Fit::Unfit => Source::Unknown,
-            },
-            None => Source::Unknown,
+        let source = match row.row_kind(cat).and_then(|kind| Fit::of(arg.form, kind)) {
+            Some(Fit::Agrees) => Source::Supplied(arg.handle),
+            Some(Fit::TypeLikeConst) | None => Source::Unknown,
         };
         Meaning::at_row(cat, row, source)
     }

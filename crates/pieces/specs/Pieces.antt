@@ -1,5 +1,5 @@
 -- The pieces of a term over a list of entries. Assumes nothing.
-use Rattle.std.specs.Prelude.{ℕ, ◌+◌, ◌<◌, List, [], ◌∷◌, ◌++◌, map, length, take, drop, Some, None, Option}
+use Rattle.std.specs.Prelude.{ℕ, ◌<◌, List, [], ◌∷◌, map, Some, None, Option}
 use Rattle.std.specs.List.{slice_get}
 use Rattle.definitions.specs.declared.kinds.Mark.{Mark}
 use Rattle.definitions.specs.declared.kinds.Mark.TheVariants.{Ref, Head, Base, Value, Region}
@@ -34,10 +34,6 @@ module _ {A : Type 0} where
 
   abbrev pub spelled_with : List A → List Mark → List (Piece A)
   spelled_with entries ms = map (piece_with entries) ms
-
-  -- a list written into another from a position on
-  abbrev pub laid_at : ℕ → List (Piece A) → List (Piece A) → List (Piece A)
-  laid_at at ps out = take at out ++ (ps ++ drop (at + length ps) out)
 
   -- a piece that is no ref
   abbrev pub IsNoRef : Piece A → Type 0

@@ -21,13 +21,9 @@ impl<A: Copy> Piece<A> {
         ensures whole { RefBelow (length entries.now) mark → IsNoRef result }
     {
         match mark {
-            Mark::Ref(place) => {
-                if (place as usize) < entries.len() {
-                    Piece::Entry(entries[place as usize])
-                } else {
-                    Piece::Mark(mark)
-                }
-            }
+            Mark::Ref(place) => entries
+                .get(place as usize)
+                .map_or(Piece::Mark(mark), |entry| Piece::Entry(*entry)),
             mark => Piece::Mark(mark),
         }
     }
