@@ -1,5 +1,5 @@
 -- A default has few marks, and refers to the places before it. Assumes nothing.
-use Rattle.std.proofs.Common.{◌≡◌, ℕ, zero, suc, ◌+◌, ◌-◌, ◌<◌, ◌≤◌, Bool, true, false, cond, not, ◌&&◌, ltb, List, [], ◌∷◌, ◌++◌, length, get_or, take, Some, None, Option, sym, refl, ap, ◌∙◌, subst, inl, inr, arith, length-append, length-take}
+use Rattle.std.proofs.Common.{◌≡◌, ℕ, zero, suc, ◌+◌, ◌-◌, ◌<◌, Bool, true, false, cond, not, ◌&&◌, ltb, List, [], ◌∷◌, ◌++◌, length, get_or, take, Some, None, Option, sym, refl, ap, ◌∙◌, subst, inl, inr, arith, length-append, length-take}
 use lib.ListN.{length-map}
 use Rattle.std.proofs.lemmas.List.{get_or_past, get_or-take, length-take-le}
 use Rattle.std.proofs.lemmas.Bool.{and_parts, cases_lt, ltb-true}
@@ -14,12 +14,15 @@ use Rattle.definitions.specs.Rules.{may_be_parent, may_have_parent, Lawful}
 use Rattle.definitions.specs.Terms.{begins, reads, slots_of}
 use Rattle.definitions.proofs.Decided.{rightful}
 use Rattle.definitions.proofs.Scans.{term_is}
-use Rattle.places.specs.Places.{default_of, nth, param_at}
+use Rattle.std.specs.List.{slice_get}
+use Rattle.std.proofs.lemmas.Option.{slice_get_within, get_or_from_slice_get}
+use Rattle.places.specs.Places.{default_of, param_at}
 use Rattle.pieces.specs.Pieces.{RefBelow, RefsBelow}
 use Rattle.lowerer.specs.declared.meaning.ParamPlace.{ParamPlace}
 use Rattle.lowerer.specs.declared.meaning.Meaning.{Meaning}
 use Rattle.lowerer.specs.Meanings.{default_for, fills, kinds_before, kinds_by}
 use Rattle.lowerer.proofs.Filled.{kinds_equal}
+use Rattle.lowerers.specs.Entries.{Reaches}
 
 -- marks that are read refer to the places that they may refer to
 begin_below : (ds : List Definition) (places : List Kind) (m : Mark) (k : Kind) → begins ds places m k ≡ true → RefBelow (length places) m
@@ -31,43 +34,34 @@ begin_below ds places (Region n) k h = tt
 
 read_below : (ds : List Definition) (places ks : List Kind) (ms : List Mark) → reads ds places ks ms ≡ true → RefsBelow (length places) ms
 read_below ds places ks [] h = tt
-read_below ds places [] (m ∷ ms) h = let z : ◌≡◌ {A = ℕ} 0 1 = cc in absurd (omega arith)
+read_below ds places [] (m ∷ ms) h = absurd (grind arith)
 read_below ds places (k ∷ ks) (m ∷ ms) h =
     let p = and_parts (begins ds places m k) (reads ds places (slots_of ds m ++ ks) ms) h in
     (begin_below ds places m k p.0, read_below ds places (slots_of ds m ++ ks) ms p.1)
 
--- few marks, all whose refs are to places below n
-abbrev pub Reaches : ℕ → List Mark → Type 0
-Reaches n ms = (length ms ≤ 32) × RefsBelow n ms
+get_first : {X : Type 0} (xs ys : List X) (i : ℕ) → i < length xs → slice_get (xs ++ ys) i ≡ slice_get xs i
+get_first [] ys i h = absurd (omega arith)
+get_first (x ∷ xs) ys zero h = refl
+get_first (x ∷ xs) ys (suc i) h = get_first xs ys i (omega arith)
 
-nth_some : {X : Type 0} (xs : List X) (i : ℕ) (x d : X) → nth xs i ≡ Some x → (i < length xs) × (get_or xs i d ≡ x)
-nth_some [] i x d e = let z : ◌≡◌ {A = ℕ} 0 1 = cc in absurd (omega arith)
-nth_some (y ∷ xs) zero x d e = (omega arith, (cc))
-nth_some (y ∷ xs) (suc i) x d e = let p = nth_some xs i x d e in (omega arith, p.1)
-
-nth_first : {X : Type 0} (xs ys : List X) (i : ℕ) → i < length xs → nth (xs ++ ys) i ≡ nth xs i
-nth_first [] ys i h = absurd (omega arith)
-nth_first (x ∷ xs) ys zero h = refl
-nth_first (x ∷ xs) ys (suc i) h = nth_first xs ys i (omega arith)
-
-nth_second : {X : Type 0} (xs ys : List X) (i j : ℕ) → i ≡ length xs + j → nth (xs ++ ys) i ≡ nth ys j
-nth_second [] ys i j e = let q : i ≡ j = omega arith in ap (nth ys) q
-nth_second (x ∷ xs) ys zero j e = absurd (omega arith)
-nth_second (x ∷ xs) ys (suc i) j e = nth_second xs ys i j (omega arith)
+get_second : {X : Type 0} (xs ys : List X) (i j : ℕ) → i ≡ length xs + j → slice_get (xs ++ ys) i ≡ slice_get ys j
+get_second [] ys i j e = let q : i ≡ j = omega arith in ap (slice_get ys) q
+get_second (x ∷ xs) ys zero j e = absurd (omega arith)
+get_second (x ∷ xs) ys (suc i) j e = get_second xs ys i j (omega arith)
 
 -- what is behind a place that has a default
 has_param : (o : Option Param) (ms : List Mark) → default_of o ≡ Some ms → (p : Param) × (o ≡ Some p) × (p.default ≡ Some ms)
-has_param None ms e = let z : ◌≡◌ {A = ℕ} 0 1 = cc in absurd (omega arith)
+has_param None ms e = absurd (grind arith)
 has_param (Some p) ms e = (p, refl, e)
 
 -- no definition is both a parent and a child
 not_both : (k : GenericDefKind) → may_be_parent k ≡ true → may_have_parent k ≡ true → ⊥
-not_both Function a b = let z : ◌≡◌ {A = ℕ} 0 1 = cc in omega arith
-not_both Adt a b = let z : ◌≡◌ {A = ℕ} 0 1 = cc in omega arith
-not_both TypeAlias a b = let z : ◌≡◌ {A = ℕ} 0 1 = cc in omega arith
-not_both ConstDef a b = let z : ◌≡◌ {A = ℕ} 0 1 = cc in omega arith
-not_both Trait a b = let z : ◌≡◌ {A = ℕ} 0 1 = cc in omega arith
-not_both Impl a b = let z : ◌≡◌ {A = ℕ} 0 1 = cc in omega arith
+not_both Function a b = grind arith
+not_both Adt a b = grind arith
+not_both TypeAlias a b = grind arith
+not_both ConstDef a b = grind arith
+not_both Trait a b = grind arith
+not_both Impl a b = grind arith
 
 module _ (ds : List Definition) (ok : Lawful ds) where
   right : (d : ℕ) → d < length ds → Rightful (take d ds) (definition_at ds d)
@@ -107,24 +101,24 @@ module _ (ds : List Definition) (ok : Lawful ds) where
       alone m be None f = refl
       alone m be (Some g) f = absurd (not_both (definition_at ds p).kind be ((right p m).parents g f).0)
 
-  own_at : (d i : ℕ) (x : Param) (ms : List Mark) → d < length ds → nth (definition_at ds d).rows i ≡ Some x → x.default ≡ Some ms → Reaches (length (parent_rows ds (definition_at ds d).parent) + i) ms
+  own_at : (d i : ℕ) (x : Param) (ms : List Mark) → d < length ds → slice_get (definition_at ds d).rows i ≡ Some x → x.default ≡ Some ms → Reaches (length (parent_rows ds (definition_at ds d).parent) + i) ms
   own_at d i x ms h e f =
-      let p = nth_some (definition_at ds d).rows i x no_param e in
+      let p : (i < length (definition_at ds d).rows) × (get_or (definition_at ds d).rows i no_param ≡ x) = (slice_get_within (definition_at ds d).rows i x e, get_or_from_slice_get (definition_at ds d).rows i x no_param e) in
       own_default d i ms h p.0 (ap (λ (y : Param). y.default) p.1 ∙ f)
 
   -- the default at a place of the whole list
-  at_place : (d place : ℕ) (o : Option ℕ) (x : Param) (ms : List Mark) → d < length ds → (definition_at ds d).parent ≡ o → nth (parent_rows ds o ++ (definition_at ds d).rows) place ≡ Some x → x.default ≡ Some ms → Reaches place ms
+  at_place : (d place : ℕ) (o : Option ℕ) (x : Param) (ms : List Mark) → d < length ds → (definition_at ds d).parent ≡ o → slice_get (parent_rows ds o ++ (definition_at ds d).rows) place ≡ Some x → x.default ≡ Some ms → Reaches place ms
   at_place d place None x ms h e f g = subst (λ n. Reaches n ms) (let q = ap (λ (o : Option ℕ). length (parent_rows ds o)) e in omega arith) (own_at d place x ms h f g)
   at_place d place (Some p) x ms h e f g = elim (cases_lt place (length (definition_at ds p).rows)) [
     | inl l ↦
         let q = orphan d p h e in
-        let r = own_at p place x ms q.0 (sym (nth_first (definition_at ds p).rows (definition_at ds d).rows place l) ∙ f) g in
+        let r = own_at p place x ms q.0 (sym (get_first (definition_at ds p).rows (definition_at ds d).rows place l) ∙ f) g in
         subst (λ n. Reaches n ms) (omega (arith, q.1)) r
     | inr l ↦
         let n = length (definition_at ds p).rows in
         let i = place - n in
         let b : place ≡ n + i = omega arith in
-        let r = own_at d i x ms h (sym (nth_second (definition_at ds p).rows (definition_at ds d).rows place i b) ∙ f) g in
+        let r = own_at d i x ms h (sym (get_second (definition_at ds p).rows (definition_at ds d).rows place i b) ∙ f) g in
         let k : length (parent_rows ds (definition_at ds d).parent) ≡ n = ap (λ (o : Option ℕ). length (parent_rows ds o)) e in
         subst (λ j. Reaches j ms) (omega arith) r
   ]
@@ -132,13 +126,13 @@ module _ (ds : List Definition) (ok : Lawful ds) where
   pub default_reaches : (d place : ℕ) (ms : List Mark) → default_of (param_at ds d place) ≡ Some ms → (place < length (whole_rows ds (definition_at ds d))) × Reaches place ms
   default_reaches d place ms e =
       let p = has_param (param_at ds d place) ms e in
-      let l = nth_some (whole_rows ds (definition_at ds d)) place p.0 no_param p.1 in
+      let l : place < length (whole_rows ds (definition_at ds d)) = slice_get_within (whole_rows ds (definition_at ds d)) place p.0 p.1 in
       elim (cases_lt d (length ds)) [
-        | inl h ↦ (l.0, at_place d place (definition_at ds d).parent p.0 ms h refl p.1 p.2)
+        | inl h ↦ (l, at_place d place (definition_at ds d).parent p.0 ms h refl p.1 p.2)
         | inr h ↦
             let x = get_or_past ds d nothing h in
             let n : length (whole_rows ds (definition_at ds d)) ≡ 0 = ap (λ (y : Definition). length (whole_rows ds y)) x in
-            absurd (omega (arith, l.0))
+            absurd (omega (arith, l))
       ]
 
   -- the default that an inferred entry stands for refers to the entries handed along
@@ -155,7 +149,7 @@ module _ (ds : List Definition) (ok : Lawful ds) where
     where
       filled : (t : Bool) (x : Option (List Mark)) → cond t x None ≡ Some ms → (t ≡ true) × (x ≡ Some ms)
       filled true x q = (refl, q)
-      filled false x q = let z : ◌≡◌ {A = ℕ} 0 1 = cc in absurd (omega arith)
+      filled false x q = absurd (grind arith)
 
   pub entries_reached : {A : Type 0} (m : A → Meaning) (xs : List A) (r : ParamPlace) (infer : Bool) (ms : List Mark) → Some ms ≡ default_for ds r infer (kinds_by m xs) → Reaches (length xs) ms
   entries_reached m xs r infer ms e = subst (λ n. Reaches n ms) (length-map xs (λ a. (m a).kind)) (made_reaches r infer (kinds_by m xs) ms (sym e))

@@ -1,3 +1,4 @@
+pub mod Entries
 pub mod Numbers
 pub mod Shown
 pub mod Stores

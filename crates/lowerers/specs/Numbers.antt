@@ -1,16 +1,16 @@
 -- What the variable lowerer shows, and which entry has which variable. Assumes nothing.
-use Rattle.std.specs.Prelude.{◌≡◌, ℕ, zero, suc, ◌+◌, ◌-◌, ◌<◌, Bool, true, false, cond, ◌&&◌, List, [], ◌∷◌, Some, None, Option, ◌≢◌, nat_lt}
+use Rattle.std.specs.Prelude.{◌≡◌, ℕ, zero, suc, ◌+◌, ◌-◌, ◌<◌, cond, ◌&&◌, List, [], ◌∷◌, Some, None, Option, ◌≢◌, nat_lt}
 use Rattle.diagnostics.specs.Lists.{own_view}
 use Rattle.diagnostics.specs.Tells.{View}
-use Rattle.lowerer.specs.declared.meaning.Meaning.{Meaning}
 use Rattle.lowerer.specs.declared.meaning.ParamPlace.{ParamPlace}
 use Rattle.lowerer.specs.declared.meaning.Source.{Source}
 use Rattle.lowerer.specs.declared.meaning.Source.TheVariants as source
 use Rattle.lowerers.specs.declared.lowering.Lowering.{Lowering}
+use Rattle.lowerers.specs.declared.entries.Made.{Made}
 use Rattle.lowerers.specs.declared.variables.Kept.{Kept}
-use Rattle.lowerers.specs.declared.variables.Kept.TheVariants.{Nothing, Variable, Default}
-use Rattle.lowerers.specs.declared.variables.VariableArg.{VariableArg}
+use Rattle.lowerers.specs.declared.variables.Kept.TheVariants.{Variable, Default}
 use Rattle.lowerers.specs.declared.variables.Variables.{Variables}
+use Rattle.lowerers.specs.Entries.{is_open}
 use Rattle.lowerers.specs.Shown.{with_stock}
 
 -- how many of the 256 variables are left
@@ -20,18 +20,19 @@ variables_left taken = 256 - taken
 abbrev pub variable_view : Lowering Variables → View
 variable_view s = with_stock (own_view s.reports) (variables_left s.makes.taken)
 
-abbrev pub meant_by : VariableArg → Meaning
-meant_by e = e.meaning
+-- an entry of the variable lowerer
+abbrev pub VariableArg : Type 0
+VariableArg = Made Kept
 
-abbrev pub number_in : Kept → Option ℕ
-number_in Nothing = None
-number_in (Variable n) = Some n
-number_in (Default r) = None
+abbrev pub number_in : Option Kept → Option ℕ
+number_in None = None
+number_in (Some (Variable n)) = Some n
+number_in (Some (Default r)) = None
 
-abbrev pub row_in : Kept → Option ParamPlace
-row_in Nothing = None
-row_in (Variable n) = None
-row_in (Default r) = Some r
+abbrev pub row_in : Option Kept → Option ParamPlace
+row_in None = None
+row_in (Some (Variable n)) = None
+row_in (Some (Default r)) = Some r
 
 -- the variable of an entry, if it has one
 abbrev pub numbered_by : VariableArg → Option ℕ
@@ -42,17 +43,8 @@ abbrev pub named_by : VariableArg → Option ParamPlace
 named_by e = row_in e.kept
 
 -- what is kept of an entry that takes the next variable, if one is left
-abbrev pub kept_next : ℕ → Kept
-kept_next taken = cond (nat_lt taken 256) (Variable taken) Nothing
-
--- unknown entries and those of the parent are open
-abbrev pub is_open : Source → Bool
-is_open (source.Supplied h) = false
-is_open (source.Explicit h) = false
-is_open source.Default = false
-is_open source.Unknown = true
-is_open source.Parent = true
-is_open (source.Elided r) = false
+abbrev pub kept_next : ℕ → Option Kept
+kept_next taken = cond (nat_lt taken 256) (Some (Variable taken)) None
 
 -- the variable of an entry that was made while so many were taken: the next one, if one is left and the entry is open
 abbrev pub next_for : ℕ → Source → Option ℕ
@@ -73,16 +65,10 @@ Took n None m = m ≡ n
 Took n (Some v) m = (v ≡ n) × (m ≡ n + 1)
 
 -- what inferred and parent do with the variables for the row r
-pub record Numbering (s t : Lowering Variables) (r : ParamPlace) (e : VariableArg) : Type 0 where
-  pub number : numbered_by e ≡ next_for s.makes.taken e.meaning.source
-  pub took : Took s.makes.taken (numbered_by e) t.makes.taken
+pub record Numbering (s t : Variables) (r : ParamPlace) (e : VariableArg) : Type 0 where
+  pub number : numbered_by e ≡ next_for s.taken e.meaning.source
+  pub took : Took s.taken (numbered_by e) t.taken
   pub name : named_by e ≡ name_for e.meaning.source r
-
--- an entry with neither a variable nor a name
-pub record Unnumbered (m : Meaning) (e : VariableArg) : Type 0 where
-  pub meaning : e.meaning ≡ m
-  pub number : numbered_by e ≡ None
-  pub name : named_by e ≡ None
 
 -- entries made one after another, with n variables taken before them and m after them
 pub data Makings : ℕ → List VariableArg → ℕ → Type 0 where

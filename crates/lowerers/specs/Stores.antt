@@ -1,19 +1,16 @@
 -- What the term lowerer shows, and which pieces an entry has. Assumes nothing.
-use Rattle.std.specs.Prelude.{◌≡◌, ℕ, ◌+◌, ◌-◌, ◌/◌, ◌≤◌, min, Bool, cond, List, length, take, drop, IfSome, Some, None, Option, nat_le, nat_lt}
+use Rattle.std.specs.Prelude.{◌≡◌, ℕ, ◌+◌, ◌-◌, ◌/◌, ◌≤◌, min, cond, List, length, take, IfSome, Some, None, Option, nat_le}
 use Rattle.std.specs.Option.{option_map}
-use Rattle.definitions.specs.declared.kinds.Kind.{Kind}
 use Rattle.definitions.specs.declared.kinds.Mark.{Mark}
-use Rattle.definitions.specs.Definitions.{Definition, marks_in}
+use Rattle.definitions.specs.Definitions.{marks_in}
 use Rattle.diagnostics.specs.Lists.{own_view}
 use Rattle.diagnostics.specs.Tells.{View}
-use Rattle.lowerer.specs.declared.meaning.Meaning.{Meaning}
-use Rattle.lowerer.specs.declared.meaning.ParamPlace.{ParamPlace}
-use Rattle.lowerer.specs.Meanings.{default_for}
 use Rattle.pieces.specs.declared.Piece.{Piece}
 use Rattle.pieces.specs.Pieces.{spelled_with, NoRef}
+use Rattle.spans.specs.declared.Span.{Span}
+use Rattle.spans.specs.Parts.{part}
 use Rattle.lowerers.specs.declared.lowering.Lowering.{Lowering}
-use Rattle.lowerers.specs.declared.terms.Part.{Part}
-use Rattle.lowerers.specs.declared.terms.TermArg.{TermArg}
+use Rattle.lowerers.specs.declared.entries.Made.{Made}
 use Rattle.lowerers.specs.declared.terms.Terms.{Terms}
 use Rattle.lowerers.specs.Shown.{with_stock}
 
@@ -25,29 +22,22 @@ places_left size used = min size 65536 - used
 abbrev pub term_view : Lowering Terms → View
 term_view s = with_stock (own_view s.reports) (places_left (length s.makes.store.now) s.makes.used / 32)
 
-abbrev pub meant_by : TermArg → Meaning
-meant_by e = e.meaning
+-- an entry of the term lowerer
+abbrev pub TermArg : Type 0
+TermArg = Made Span
 
 -- what was written into the store
 abbrev pub written : Terms → List (Piece TermArg)
 written s = take s.used s.store.now
 
 -- a part of a list, if the list is so long
-abbrev pub part_of : List (Piece TermArg) → Option Part → Option (List (Piece TermArg))
+abbrev pub part_of : List (Piece TermArg) → Option Span → Option (List (Piece TermArg))
 part_of ps None = None
-part_of ps (Some p) = cond (nat_le (p.from + p.len) (length ps)) (Some (take p.len (drop p.from ps))) None
+part_of ps (Some p) = cond (nat_le (p.from + p.len) (length ps)) (Some (part ps p)) None
 
 -- the pieces of an entry, if it has any
 abbrev pub written_in : Terms → TermArg → Option (List (Piece TermArg))
-written_in s e = part_of (written s) e.part
-
--- an entry that has no pieces in any store
-abbrev pub NoPieces : TermArg → Type 0
-NoPieces e = e.part ≡ None
-
--- the marks of the default that an inferred entry stands for, with so much stock
-abbrev pub default_made : List Definition → ParamPlace → Bool → List Kind → ℕ → Option (List Mark)
-default_made ds r infer before stock = cond (nat_lt 0 stock) (default_for ds r infer before) None
+written_in s e = part_of (written s) e.kept
 
 -- the pieces of every entry stay as they are, the store as large as it is, and no more than 65,536 of its places used
 pub record Keeps (s t : Terms) : Type 0 where

@@ -1,8 +1,7 @@
 // What the lowerers share: 64 reports beside what each makes its entries with.
 ghost use Rattle.std.specs.Prelude.{◌≡◌, ℕ};
-ghost use Rattle.diagnostics.specs.Lists.{own_view};
 ghost use Rattle.diagnostics.specs.Tells.{Told, Cleared};
-ghost use Rattle.lowerers.specs.Shown.{with_stock};
+ghost use Rattle.lowerers.specs.Shown.{view_by};
 
 use diagnostics::list::ReportList;
 use diagnostics::own::OwnReports;
@@ -24,17 +23,17 @@ pub struct Lowering<M> {
 }
 
 impl<M: Stocked> ReportList for Lowering<M> {
-    ghost view = { λ s. with_stock (own_view s.reports) (M.Stocked.left s.makes) };
+    ghost view = { view_by M.Stocked.left };
 
     fn tell(&mut self, report: PathLoweringDiagnostic)
-        ensures told { Told report (with_stock (own_view self.old.reports) (M.Stocked.left self.old.makes)) (with_stock (own_view self.new.reports) (M.Stocked.left self.new.makes)) }
+        ensures told { Told report (view_by M.Stocked.left self.old) (view_by M.Stocked.left self.new) }
         ensures makes { self.new.makes ≡ self.old.makes }
     {
         self.reports.tell(report);
     }
 
     fn clear(&mut self)
-        ensures cleared { Cleared (with_stock (own_view self.old.reports) (M.Stocked.left self.old.makes)) (with_stock (own_view self.new.reports) (M.Stocked.left self.new.makes)) }
+        ensures cleared { Cleared (view_by M.Stocked.left self.old) (view_by M.Stocked.left self.new) }
         ensures makes { self.new.makes ≡ self.old.makes }
     {
         self.reports.clear();

@@ -1,8 +1,9 @@
 // The variable lowerer: what is not known is numbered.
 ghost use Rattle.std.specs.Prelude.{◌≤◌};
 
+use crate::entries::Made;
 use crate::lowering::Lowering;
-use lowerer::meaning::{Meaning, ParamPlace};
+use lowerer::meaning::ParamPlace;
 
 mod makes;
 
@@ -16,18 +17,12 @@ pub struct Variables {
 // A lowerer whose unknown entries have variables.
 pub type VariableLowerer = Lowering<Variables>;
 
-// What is kept of an entry besides its meaning: nothing, the variable that stands for it, or the row whose default
-// it is.
+// What is kept of an entry: the variable that stands for it, or the row whose default it is.
 #[derive(Clone, Copy)]
-enum Kept {
-    Nothing,
+pub enum Kept {
     Variable(u32),
     Default(ParamPlace),
 }
 
 // An entry of the variable lowerer.
-#[derive(Clone, Copy)]
-pub struct VariableArg {
-    meaning: Meaning,
-    kept: Kept,
-}
+pub type VariableArg = Made<Kept>;

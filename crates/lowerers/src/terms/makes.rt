@@ -1,69 +1,69 @@
-ghost use Rattle.std.specs.Prelude.{◌≡◌, ◌+◌, ◌/◌, ◌≤◌, min, length};
+ghost use Rattle.std.specs.Prelude.{◌≡◌, ◌+◌, ◌/◌, ◌<◌, ◌++◌, ◌∷◌, [], min, length};
 ghost use Rattle.std.specs.Option.{option_map};
-ghost use Rattle.generics.specs.Held.{held};
-ghost use Rattle.lowerer.specs.Meanings.{elided_as, explicit_as, inferred_as, kinds_by, parent_as, provided_as, type_like_as};
-ghost use Rattle.lowerer.specs.Spends.{Spent, Untouched};
-ghost use Rattle.pieces.specs.Pieces.{laid_at, spelled_with};
+ghost use Rattle.lowerers.specs.Entries.{NothingKept};
 ghost use Rattle.lowerers.specs.Shown.{fresh_view};
-ghost use Rattle.lowerers.specs.Stores.{default_made, meant_by, places_left, term_view, written_in, NoPieces, Writing};
+ghost use Rattle.lowerers.specs.Stores.{places_left, term_view, written, written_in, Writing};
 
+use crate::entries::Made;
 use crate::lowering::{Lowering, Stocked};
-use crate::terms::{Part, TermArg, Terms};
-use definitions::kinds::{Kind, Mark};
-use diagnostics::list::ReportList;
+use crate::makes::Makes;
+use crate::terms::{TermArg, Terms};
+use definitions::kinds::Mark;
 use diagnostics::own::OwnReports;
-use generics::catalogue::Catalogue;
-use lowerer::defaults::default_for;
-use lowerer::entry::Entry;
-use lowerer::makings::GenericArgsLowerer;
-use lowerer::meaning::{Meaning, ParamPlace, Source};
-use path::args::GenericArg;
+use lowerer::meaning::{Meaning, ParamPlace};
 use pieces::Piece;
+use spans::Span;
 
 impl<'a> Stocked for Terms<'a> {
     ghost left = { λ s. places_left (length s.store.now) s.used / 32 };
 
     fn stock(&self) -> usize {
-        self.store.len().min(65536).saturating_sub(self.used) / 32
-    }
-}
-
-impl Entry for TermArg {
-    ghost means = { meant_by };
-
-    fn meaning(&self) -> Meaning {
-        self.meaning
-    }
-}
-
-impl TermArg {
-    // An entry without pieces.
-    fn plain(meaning: Meaning) -> TermArg
-        ensures meaning { meant_by result ≡ meaning }
-        ensures part { NoPieces result }
-    {
-        TermArg {
-            meaning,
-            part: None,
-        }
+        (self.store.len().min(65536) - self.used) / 32
     }
 }
 
 impl<'a> Terms<'a> {
-    // Writes the marks behind what is there, with entry p for ref p.
-    fn write(&mut self, marks: &[Mark], entries: &[TermArg]) -> Part
-        requires { self.old.used + length marks.now ≤ min (length self.old.store.now) 65536 }
-        ensures store { self.new.store.now ≡ laid_at self.old.used (spelled_with entries.now marks.now) self.old.store.now }
-        ensures used { self.new.used ≡ self.old.used + length marks.now }
-        ensures part { (result.from ≡ self.old.used) × (result.len ≡ length marks.now) }
+    // One piece more behind those that are there.
+    fn push(&mut self, piece: Piece<TermArg>)
+        requires { self.old.used < min (length self.old.store.now) 65536 }
+        ensures written { written self.new ≡ written self.old ++ piece ∷ [] }
+        ensures used { self.new.used ≡ self.old.used + 1 }
+        ensures size { length self.new.store.now ≡ length self.old.store.now }
     {
+        self.store[self.used] = piece;
+        self.used += 1;
+    }
+}
+
+// A default takes a place for each of its pieces; nothing else takes one.
+impl<'a> Makes for Terms<'a> {
+    type Kept = Span;
+
+    ghost Infers = { λ o r entries s t e. Writing o entries s t e };
+
+    ghost Opens = { λ r s t e. NothingKept e × (t ≡ s) };
+
+    // Writes the marks behind what is there, with entry p for ref p.
+    fn default_entry(
+        &mut self,
+        meaning: Meaning,
+        _row: ParamPlace,
+        marks: &[Mark],
+        entries: &[TermArg],
+    ) -> TermArg {
         let from = self.used;
-        let len = marks.len();
-        for (i, mark) in marks.iter().enumerate() {
-            self.store[from + i] = Piece::of(entries, *mark);
+        for mark in marks {
+            self.push(Piece::of(entries, *mark));
         }
-        self.used = from + len;
-        Part { from, len }
+        let len = marks.len();
+        Made {
+            meaning,
+            kept: Some(Span { from, len }),
+        }
+    }
+
+    fn open_entry(&mut self, meaning: Meaning) -> TermArg {
+        Made::plain(meaning)
     }
 }
 
@@ -85,96 +85,7 @@ impl<'a> Lowering<Terms<'a>> {
     pub fn pieces(&self, entry: &TermArg) -> Option<&[Piece<TermArg>]>
         ensures { option_map (λ x. x.now) result ≡ written_in self.now.makes entry.now }
     {
-        let Part { from, len } = entry.part?;
-        let used = self.makes.used.min(self.makes.store.len());
-        if from > used || len > used - from {
-            return None;
-        }
-        Some(&self.makes.store[from..from + len])
-    }
-}
-
-// A default takes a place for each of its pieces; nothing else takes one.
-impl<'a> GenericArgsLowerer for Lowering<Terms<'a>> {
-    type Arg = TermArg;
-
-    ghost meaning = { meant_by };
-
-    fn provided_kind(&mut self, cat: &Catalogue, row: ParamPlace, arg: GenericArg) -> TermArg
-        ensures entry { meant_by result ≡ provided_as (held cat.now) row arg }
-        ensures state { Untouched (term_view self.old) (term_view self.new) }
-        ensures plain { NoPieces result }
-        ensures same { self.new ≡ self.old }
-    {
-        TermArg::plain(Meaning::provided(cat, row, arg))
-    }
-
-    fn provided_type_like_const(&mut self, handle: u32) -> TermArg
-        ensures entry { meant_by result ≡ type_like_as handle }
-        ensures state { Untouched (term_view self.old) (term_view self.new) }
-        ensures plain { NoPieces result }
-        ensures same { self.new ≡ self.old }
-    {
-        TermArg::plain(Meaning::type_like_const(handle))
-    }
-
-    fn inferred_kind(
-        &mut self,
-        cat: &Catalogue,
-        row: ParamPlace,
-        infer: bool,
-        preceding: &[TermArg],
-    ) -> TermArg
-        ensures entry { meant_by result ≡ inferred_as (held cat.now) row infer (kinds_by meant_by preceding.now) (term_view self.old).stock }
-        ensures state { Spent (term_view self.old) (term_view self.new) }
-        ensures store { Writing (default_made (held cat.now) row infer (kinds_by meant_by preceding.now) (term_view self.old).stock) preceding.now self.old.makes self.new.makes result }
-    {
-        if self.makes.stock() > 0 {
-            if let Some(marks) = default_for(cat, row, infer, preceding) {
-                let meaning = Meaning::at_row(cat, row, Source::Default);
-                let part = self.makes.write(marks, preceding);
-                return TermArg {
-                    meaning,
-                    part: Some(part),
-                };
-            }
-        }
-        TermArg::plain(Meaning::at_row(cat, row, Source::Unknown))
-    }
-
-    fn parent_arg(&mut self, cat: &Catalogue, row: ParamPlace) -> TermArg
-        ensures entry { meant_by result ≡ parent_as (held cat.now) row (term_view self.old).stock }
-        ensures state { Spent (term_view self.old) (term_view self.new) }
-        ensures plain { NoPieces result }
-        ensures same { self.new ≡ self.old }
-    {
-        let source = if self.makes.stock() > 0 {
-            Source::Parent
-        } else {
-            Source::Unknown
-        };
-        TermArg::plain(Meaning::at_row(cat, row, source))
-    }
-
-    fn explicit_arg(&mut self, handle: u32) -> TermArg
-        ensures entry { meant_by result ≡ explicit_as handle }
-        ensures state { Untouched (term_view self.old) (term_view self.new) }
-        ensures plain { NoPieces result }
-        ensures same { self.new ≡ self.old }
-    {
-        TermArg::plain(Meaning::explicit(handle))
-    }
-
-    fn elided_arg(&mut self, region: u32) -> TermArg
-        ensures entry { meant_by result ≡ elided_as region }
-        ensures state { Untouched (term_view self.old) (term_view self.new) }
-        ensures plain { NoPieces result }
-        ensures same { self.new ≡ self.old }
-    {
-        TermArg::plain(Meaning::elided(region))
-    }
-
-    fn kind_of(&self, entry: &TermArg) -> Kind {
-        entry.meaning.kind
+        let Span { from, len } = entry.kept?;
+        self.makes.store[..self.makes.used].get(from..)?.get(..len)
     }
 }
