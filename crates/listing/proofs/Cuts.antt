@@ -34,7 +34,7 @@ pub record Good (sep : ℕ) (s : Scan) (text : List ℕ) : Type 0 where
   pub number : length (all_of (pieces sep s text)) ≡ separators sep s text + 1
 
 never : {P : Type 0} {u : Fault} → Some u ≡ None → P
-never e = let z : ◌≡◌ {A = ℕ} 0 1 = cc in absurd (omega arith)
+never e = absurd (grind arith)
 
 good_end : (sep : ℕ) (s : Scan) (i : ℕ) (q : Bool) → closed s ≡ q → cond {A = Option Fault} q None (Some (record { at = i; reason = Unclosed })) ≡ None → Good sep s []
 good_end sep s i true e h = record { whole = refl; each = (e, tt); number = refl }
@@ -76,8 +76,8 @@ pub record Read (sep : ℕ) (s : Scan) (p rest : List ℕ) : Type 0 where
   pub faults : (i : ℕ) → fault sep s i (p ++ rest) ≡ fault sep last (i + length p) rest
 
 read_more : (sep : ℕ) (s : Scan) (b : ℕ) (p rest : List ℕ) (q : Bool) (o : Option Scan) → splits sep s b ≡ q → after s b ≡ o → ((t : Scan) → single sep t p ≡ true → Read sep t p rest) → cond q false (elim o [ None ↦ false | Some t ↦ single sep t p ]) ≡ true → Read sep s (b ∷ p) rest
-read_more sep s b p rest true o e f more h = let z : ◌≡◌ {A = ℕ} 0 1 = cc in absurd (omega arith)
-read_more sep s b p rest false None e f more h = let z : ◌≡◌ {A = ℕ} 0 1 = cc in absurd (omega arith)
+read_more sep s b p rest true o e f more h = absurd (grind arith)
+read_more sep s b p rest false None e f more h = absurd (grind arith)
 read_more sep s b p rest false (Some t) e f more h =
     let r = more t h in
     record {

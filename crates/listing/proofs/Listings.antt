@@ -1,21 +1,23 @@
 -- The written arguments of a list. Assumes nothing.
-use Rattle.std.proofs.Common.{◌≡◌, ℕ, ◌+◌, ◌<◌, ◌≤◌, Bool, true, false, cond, ◌⊎◌, List, [], ◌∷◌, ◌++◌, map, length, get_or, drop, Some, None, Err, sym, refl, ap, ◌∙◌, subst, inl, inr, append_assoc, append-nil, arith}
+use Rattle.std.proofs.Common.{◌≡◌, ℕ, ◌+◌, ◌<◌, Bool, true, false, cond, ◌⊎◌, List, [], ◌∷◌, ◌++◌, map, length, MutBor, Some, None, Option, Err, sym, refl, ap, ◌∙◌, subst, inl, inr, arith}
+use denote.Param.Members.{Once}
+use Rattle.std.specs.Prelude.{find}
+use Rattle.std.specs.Fn.{FnOnceReturnsAtMut}
 use Rattle.std.specs.List.{AllByRecursion}
+use Rattle.std.specs.List.Retain.{PopsIf}
+use Rattle.std.specs.Option.{option_map}
 use Rattle.std.proofs.lemmas.Bool.{both_ways}
-use Rattle.std.proofs.lemmas.List.{at_drop_more, at_drop_all, map_push, same_from_push}
-use Rattle.path.specs.declared.args.Form.{Form}
-use Rattle.path.specs.declared.args.GenericArg.{GenericArg}
+use Rattle.std.proofs.lemmas.List.{map_push, same_from_push}
 use Rattle.listing.specs.declared.faults.Fault.{Fault}
 use Rattle.listing.specs.declared.faults.ReadError.{ReadError}
 use Rattle.listing.specs.declared.faults.ReadError.TheVariants.{Unreadable, NoMemory}
-use Rattle.listing.specs.declared.spans.Span.{Span}
+use Rattle.spans.specs.declared.Span.{Span}
 use Rattle.listing.specs.Answered.{Reads}
-use Rattle.listing.specs.Arguments.{Written, args_of, bare, first_blank, Listed}
+use Rattle.listing.specs.Arguments.{Written, first_blank, Listed}
 use Rattle.listing.specs.Blanks.{blank}
 use Rattle.listing.specs.Nesting.{start}
-use Rattle.listing.specs.Parts.{part}
+use Rattle.spans.specs.Parts.{part}
 use Rattle.listing.specs.Pieces.{Adjacent, Cut, fault}
-use Rattle.listing.specs.Tokens.{form}
 use Rattle.listing.proofs.Cuts.{same_cut}
 
 -- the pieces, none of them blank
@@ -23,10 +25,10 @@ abbrev pub Filled : List (List ℕ) → Type 0
 Filled ps = AllByRecursion (λ p. blank p ≡ false) ps
 
 absurd_some : {P : Type 0} {n : ℕ} → Some n ≡ None → P
-absurd_some e = let z : ◌≡◌ {A = ℕ} 0 1 = cc in absurd (omega arith)
+absurd_some e = absurd (grind arith)
 
 module _ (text : List ℕ) where
-  filled_one : (s : Span) (ss : List Span) (q : Bool) → blank (part text s) ≡ q → (first_blank text ss ≡ None → Filled (map (part text) ss)) → cond q (Some s.from) (first_blank text ss) ≡ None → Filled (map (part text) (s ∷ ss))
+  filled_one : (s : Span) (ss : List Span) (q : Bool) → blank (part text s) ≡ q → (first_blank text ss ≡ None → Filled (map (part text) ss)) → option_map (λ t. t.from) (cond q (Some s) (find (λ t. blank (part text t)) ss)) ≡ None → Filled (map (part text) (s ∷ ss))
   filled_one s ss true b more e = absurd_some e
   filled_one s ss false b more e = (b, more e)
 
@@ -38,7 +40,7 @@ module _ (text : List ℕ) where
   not_filled [] at e f = absurd_some (sym e)
   not_filled (s ∷ ss) at e f = let b = f.0 in not_filled ss at (rw b at e) f.1
 
-  front_one : (t : Span) (ss : List Span) (s : Span) (at : ℕ) (q : Bool) → blank (part text t) ≡ q → (first_blank text ss ≡ Some at → first_blank text (ss ++ s ∷ []) ≡ Some at) → cond q (Some t.from) (first_blank text ss) ≡ Some at → first_blank text ((t ∷ ss) ++ s ∷ []) ≡ Some at
+  front_one : (t : Span) (ss : List Span) (s : Span) (at : ℕ) (q : Bool) → blank (part text t) ≡ q → (first_blank text ss ≡ Some at → first_blank text (ss ++ s ∷ []) ≡ Some at) → option_map (λ u. u.from) (cond q (Some t) (find (λ u. blank (part text u)) ss)) ≡ Some at → first_blank text ((t ∷ ss) ++ s ∷ []) ≡ Some at
   front_one t ss s at true b more e = rw b e
   front_one t ss s at false b more e = rw b (more e)
 
@@ -60,6 +62,17 @@ module _ (text : List ℕ) where
     pub last : Span
     pub is : all ≡ front ++ last ∷ []
     pub which : ((blank (part text last) ≡ false) × (kept ≡ all)) ⊎ ((blank (part text last) ≡ true) × (kept ≡ front))
+
+  -- what `pop_if` leaves of some spans, where it asks whether the last one is blank
+  pub popped : {F : Type 0} (g : Once F (MutBor Span × Unit {0}) (Bool × (MutBor Span × Unit {0}))) (f : F) (r : Option Span) (all kept : List Span) → 0 < length all → ((x : Span) (b : Bool) (y : Span) → FnOnceReturnsAtMut g f x b y → (b ≡ blank (part text x)) × (y ≡ x)) → PopsIf g all kept f r → Kept all kept
+  popped g f r all kept some asks (inl p) = absurd (omega (arith, ap length p.0))
+  popped g f r all kept some asks (inr p) =
+      let told = asks p.1 p.2 p.3 p.5 in
+      record { front = p.0; last = p.1; is = p.4; which = left p.2 (sym told.0) p.7 }
+    where
+      left : (b : Bool) → blank (part text p.1) ≡ b → kept ≡ cond b p.0 (p.0 ++ p.3 ∷ []) → ((blank (part text p.1) ≡ false) × (kept ≡ all)) ⊎ ((blank (part text p.1) ≡ true) × (kept ≡ p.0))
+      left true e k = inr (e, k)
+      left false e k = inl (e, k ∙ ap (λ z. p.0 ++ z ∷ []) (asks p.1 p.2 p.3 p.5).1 ∙ sym p.4)
 
   module _ (all kept : List Span) (cut : Cut 44 (map (part text) all) text) (k : Kept all kept) where
     pub written : first_blank text kept ≡ None → Written (map (part text) kept) text
@@ -102,32 +115,9 @@ module _ (text : List ℕ) where
 
   -- a text that cannot be cut holds no arguments
   no_cut : (u : Fault) (ps : List (List ℕ)) → fault 44 start 0 text ≡ Some u → Cut 44 ps text → ⊥
-  no_cut u ps e c = let n = (same_cut 44 ps text c).1 in let z : ◌≡◌ {A = ℕ} 0 1 = cc in omega arith
+  no_cut u ps e c = let n = (same_cut 44 ps text c).1 in grind arith
 
   pub broken : {A : Type 0} (items : A → List Span) (P : A → Type 0) (e : ReadError) → Reads (Err e) (fault 44 start 0 text) P → Listed items text (Err e)
   broken items P (Unreadable u) h =
       (λ ps w. elim w.pieces [ inl c ↦ no_cut u _ h c | inr c ↦ no_cut u _ h c.2 ], inl h)
   broken items P NoMemory h = tt
-
-  module _ (ss : List Span) (i : ℕ) (so : first_blank text (drop i ss) ≡ first_blank text ss) where
-    pub blank_here : i < length ss → blank (part text (get_or ss i (record { from = 0; len = 0 }))) ≡ true → Some (get_or ss i (record { from = 0; len = 0 })).from ≡ first_blank text ss
-    blank_here h b =
-        let step : first_blank text (drop i ss) ≡ Some (get_or ss i (record { from = 0; len = 0 })).from = at_drop_more (first_blank text) ss i (record { from = 0; len = 0 }) h ∙ rw b in
-        sym step ∙ so
-
-    pub not_here : i < length ss → blank (part text (get_or ss i (record { from = 0; len = 0 }))) ≡ false → first_blank text (drop (i + 1) ss) ≡ first_blank text ss
-    not_here h b =
-        let step : first_blank text (drop i ss) ≡ first_blank text (drop (i + 1) ss) = at_drop_more (first_blank text) ss i (record { from = 0; len = 0 }) h ∙ rw b in
-        sym step ∙ so
-
-    pub nowhere : length ss ≤ i → None ≡ first_blank text ss
-    nowhere h = sym (at_drop_all (first_blank text) ss i h) ∙ so
-
-  -- one more argument added
-  pub one_more : (ss : List Span) (i n m k : ℕ) (xs ys whole : List GenericArg) (f : Form) → i < length ss → k ≡ n → f ≡ form (bare (part text (get_or ss i (record { from = 0; len = 0 })))) → ys ≡ xs ++ record { form = f; handle = k } ∷ [] → m ≡ n + 1 → xs ++ args_of text n (drop i ss) ≡ whole → ys ++ args_of text m (drop (i + 1) ss) ≡ whole
-  one_more ss i n m k xs ys whole f h same is p q so =
-      let step = at_drop_more (args_of text n) ss i (record { from = 0; len = 0 }) h in
-      rw (p, q, is, same, append_assoc) (ap (λ l. xs ++ l) (sym step) ∙ so)
-
-  pub all_added : (ss : List Span) (i n : ℕ) (xs whole : List GenericArg) → length ss ≤ i → xs ++ args_of text n (drop i ss) ≡ whole → xs ≡ whole
-  all_added ss i n xs whole h so = sym (append-nil xs) ∙ ap (λ l. xs ++ l) (sym (at_drop_all (args_of text n) ss i h)) ∙ so

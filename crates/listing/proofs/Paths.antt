@@ -1,13 +1,13 @@
 -- One byte of a path. Assumes nothing.
 use Rattle.std.proofs.Common.{◌≡◌, ℕ, ◌+◌, ◌<◌, ◌≤◌, Bool, true, false, cond, ◌||◌, eqb, List, ◌∷◌, length, get_or, drop, Some, None, Option, sym, refl, ap, ◌∙◌, subst, arith}
-use Rattle.std.proofs.lemmas.List.{at_drop_more, at_drop_all}
+use Rattle.std.proofs.lemmas.List.{at_drop_more}
 use Rattle.std.specs.Char.{is_ascii_digit}
 use Rattle.listing.specs.declared.scanning.Scan.{Scan}
 use Rattle.listing.specs.declared.shapes.Place.{Place}
 use Rattle.listing.specs.declared.shapes.Place.TheVariants.{First, Next, Name, Gap, Colon, Inside, Behind}
 use Rattle.listing.specs.Blanks.{white}
 use Rattle.listing.specs.Nesting.{after, closed, letter}
-use Rattle.listing.specs.Tokens.{deep, inside, path_from, place_after, ends}
+use Rattle.listing.specs.Tokens.{deep, inside, path_from, place_after}
 use Rattle.listing.proofs.Scans.{shallow}
 
 -- what a place behind a byte says of the rest
@@ -27,14 +27,6 @@ module _ (text : List ℕ) (p : Place) (i : ℕ) (so : path_from p (drop i text)
   on q h e =
       let step : path_from p (drop i text) ≡ path_from q (drop (i + 1) text) = at_drop_more (path_from p) text i 0 h ∙ carries p _ _ ∙ ap (carried (drop (i + 1) text)) e in
       sym step ∙ so
-
-  pub stops : i < length text → place_after p (get_or text i 0) ≡ None → false ≡ path_from First text
-  stops h e =
-      let step : path_from p (drop i text) ≡ false = at_drop_more (path_from p) text i 0 h ∙ carries p _ _ ∙ ap (carried (drop (i + 1) text)) e in
-      sym step ∙ so
-
-  pub over : length text ≤ i → ends p ≡ path_from First text
-  over h = sym (at_drop_all (path_from p) text i h) ∙ so
 
 -- a place that is at most n deep
 data Low (n : ℕ) : Option Place → Type 0 where

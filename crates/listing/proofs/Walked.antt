@@ -1,11 +1,10 @@
 -- What one turn of `cut` keeps. Assumes nothing.
-use Rattle.std.proofs.Common.{◌≡◌, ℕ, ◌+◌, ◌-◌, ◌<◌, ◌≤◌, true, false, List, [], ◌∷◌, ◌++◌, map, length, get_or, take, drop, Some, None, sym, refl, ap, ◌∙◌, subst, append_assoc, append-nil, arith}
+use Rattle.std.proofs.Common.{◌≡◌, ℕ, ◌+◌, ◌-◌, ◌<◌, ◌≤◌, true, false, List, [], ◌∷◌, ◌++◌, map, length, get_or, take, drop, Some, None, sym, ap, ◌∙◌, subst, append_assoc, append-nil, arith}
 use Rattle.std.proofs.lemmas.List.{at_drop_more, at_drop_all, map_push, take_more, get_or-drop, length-drop, length-map}
 use Rattle.listing.specs.declared.scanning.Scan.{Scan}
-use Rattle.listing.specs.declared.spans.Span.{Span}
-use Rattle.listing.specs.declared.faults.Reason.TheVariants.{Unopened, Unclosed}
+use Rattle.spans.specs.declared.Span.{Span}
 use Rattle.listing.specs.Nesting.{after, closed, start}
-use Rattle.listing.specs.Parts.{part}
+use Rattle.spans.specs.Parts.{part}
 use Rattle.listing.specs.Pieces.{splits, Cut, fault, separators, Adjacent}
 use Rattle.listing.proofs.Cuts.{Cutting, all_of, with_byte, pieces, good, good_cut}
 
@@ -36,9 +35,6 @@ renamed sep text spans spans' from from' scan scan' i p q r so = rw (p, q, r) so
 -- what is known at the end of the text
 abbrev pub Finished : ℕ → List ℕ → List Span → ℕ → Type 0
 Finished sep text spans n = (fault sep start 0 text ≡ None) × Cut sep (map (part text) spans) text × (length spans ≡ separators sep start text + 1) × Adjacent 0 spans (n + 1)
-
-pub none_yet : (sep : ℕ) (text : List ℕ) → Sofar sep text [] 0 start 0
-none_yet sep text = record { shallow = omega arith; ordered = omega arith; places = refl; faulty = refl; given = refl }
 
 module _ (sep : ℕ) (text : List ℕ) (spans : List Span) (from : ℕ) (scan : Scan) (i : ℕ) (so : Sofar sep text spans from scan i) where
   module _ (inside : i < length text) where
@@ -86,13 +82,7 @@ module _ (sep : ℕ) (text : List ℕ) (spans : List Span) (from : ℕ) (scan : 
           given = rw (longer, append_assoc (begun text from i)) old;
         }
 
-    pub stops : splits sep scan (get_or text i 0) ≡ false → after scan (get_or text i 0) ≡ None → fault sep start 0 text ≡ Some (record { at = i; reason = Unopened })
-    stops e f = sym so.faulty ∙ fault_here ∙ rw (e, f)
-
   module _ (over : length text ≤ i) where
-    pub unclosed : closed scan ≡ false → fault sep start 0 text ≡ Some (record { at = i; reason = Unclosed })
-    unclosed e = sym so.faulty ∙ at_drop_all (fault sep scan i) text i over ∙ rw e
-
     -- the spans with the last one are the pieces
     complete : map (part text) (spans ++ record { from = from; len = i - from } ∷ []) ≡ all_of (pieces sep start text)
     complete =

@@ -1,15 +1,16 @@
 -- The arguments that the text of a list holds. Assumes nothing.
-use Rattle.std.specs.Prelude.{◌≡◌, ℕ, ◌+◌, ◌^◌, ◌<◌, true, false, cond, ◌⊎◌, List, [], ◌∷◌, ◌++◌, map, length, Some, None, Ok, Err, Option, Result}
+use Rattle.std.specs.Prelude.{◌≡◌, ℕ, ◌+◌, ◌^◌, ◌<◌, true, false, ◌⊎◌, List, [], ◌∷◌, ◌++◌, map, length, Some, Ok, Err, Option, Result, find}
+use Rattle.std.specs.Option.{option_map}
 use Rattle.std.specs.List.{AllByRecursion}
 use Rattle.listing.specs.declared.faults.Fault.{Fault}
 use Rattle.listing.specs.declared.faults.Reason.TheVariants.{Empty, Many}
 use Rattle.listing.specs.declared.faults.ReadError.{ReadError}
 use Rattle.listing.specs.declared.faults.ReadError.TheVariants.{Unreadable, NoMemory}
-use Rattle.listing.specs.declared.spans.Span.{Span}
+use Rattle.spans.specs.declared.Span.{Span}
 use Rattle.path.specs.declared.args.GenericArg.{GenericArg}
 use Rattle.listing.specs.Blanks.{blank, trimmed}
 use Rattle.listing.specs.Nesting.{start}
-use Rattle.listing.specs.Parts.{part}
+use Rattle.spans.specs.Parts.{part}
 use Rattle.listing.specs.Pieces.{Adjacent, Cut, fault}
 use Rattle.listing.specs.Tokens.{form}
 
@@ -21,8 +22,7 @@ pub record Written (ps : List (List ℕ)) (text : List ℕ) : Type 0 where
 
 -- where the first blank one of the spans begins
 abbrev pub first_blank : List ℕ → List Span → Option ℕ
-first_blank text [] = None
-first_blank text (s ∷ ss) = cond (blank (part text s)) (Some s.from) (first_blank text ss)
+first_blank text ss = option_map (λ s. s.from) (find (λ s. blank (part text s)) ss)
 
 -- the text cannot be cut, or a blank piece begins there
 abbrev pub Faulty : List ℕ → Fault → Type 0

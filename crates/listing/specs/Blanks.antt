@@ -1,7 +1,7 @@
 -- White space. Assumes nothing.
 use Rattle.std.specs.Prelude.{ℕ, ◌-◌, Bool, ◌||◌, List, length, ◌==◌}
-use Rattle.std.specs.List.{prefix_len, suffix_len}
-use Rattle.listing.specs.declared.spans.Span.{Span}
+use Rattle.std.specs.List.{list_all, prefix_len, suffix_len}
+use Rattle.spans.specs.declared.Span.{Span}
 
 -- a space, a tab or a carriage return
 abbrev pub white : ℕ → Bool
@@ -9,7 +9,7 @@ white b = b == 32 || b == 9 || b == 13
 
 -- nothing but white space
 abbrev pub blank : List ℕ → Bool
-blank text = prefix_len white text == length text
+blank text = list_all white text
 
 -- the text without the white space that it begins and ends with
 abbrev pub trimmed : List ℕ → Span

@@ -1,7 +1,7 @@
 pub mod Nesting
-pub mod Parts
 pub mod Pieces
 pub mod Answered
 pub mod Blanks
 pub mod Arguments
 pub mod Tokens
+pub mod Words

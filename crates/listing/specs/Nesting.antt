@@ -1,10 +1,10 @@
 -- How brackets and quotes nest. Assumes nothing.
-use Rattle.std.specs.Prelude.{ℕ, ◌+◌, ◌-◌, Bool, true, false, cond, ◌||◌, Some, None, Option, ◌==◌, nat_lt}
+use Rattle.std.specs.Prelude.{ℕ, ◌+◌, ◌-◌, Bool, true, false, cond, ◌||◌, Some, None, Option, option_and_then, ◌==◌, nat_lt}
 use Rattle.std.specs.Char.{is_ascii_digit, is_ascii_alphabetic}
 use Rattle.listing.specs.declared.scanning.Mode.{Mode}
 use Rattle.listing.specs.declared.scanning.Mode.TheVariants.{Plain, Word, Dash, Text, TextSlash, Tick, Ticked, Sealed, TickSlash, Escape}
 use Rattle.listing.specs.declared.scanning.Role.{Role}
-use Rattle.listing.specs.declared.scanning.Role.TheVariants.{Opens, Closes, Inner, Wrong}
+use Rattle.listing.specs.declared.scanning.Role.TheVariants.{Opens, Closes, Inner}
 use Rattle.listing.specs.declared.scanning.Scan.{Scan}
 
 -- a letter or _
@@ -40,22 +40,22 @@ next_mode TickSlash b = Escape
 next_mode Escape b = cond (b == 39) Plain Escape
 
 -- < ( [ { open, and > ) ] } close
-abbrev bracket : ℕ → Role
+abbrev pub bracket : ℕ → Role
 bracket b = cond (b == 60 || b == 40 || b == 91 || b == 123) Opens (cond (b == 62 || b == 41 || b == 93 || b == 125) Closes Inner)
 
 -- a bracket that is quoted, and the > of an arrow, are none; an apostrophe right behind a name, and a quoted
--- character that does not end, are wrong
-abbrev pub role : Mode → ℕ → Role
-role Plain b = bracket b
-role Word b = cond (b == 39) Wrong (bracket b)
-role Dash b = cond (b == 62) Inner (bracket b)
-role Text b = Inner
-role TextSlash b = Inner
-role Tick b = Inner
-role Ticked b = cond (b == 39) Inner (bracket b)
-role Sealed b = cond (b == 39 || wide b) Inner Wrong
-role TickSlash b = Inner
-role Escape b = cond (b == 39 || escaped b) Inner Wrong
+-- character that does not end, cannot stand there
+abbrev pub role : Mode → ℕ → Option Role
+role Plain b = Some (bracket b)
+role Word b = cond (b == 39) None (Some (bracket b))
+role Dash b = cond (b == 62) (Some Inner) (Some (bracket b))
+role Text b = Some Inner
+role TextSlash b = Some Inner
+role Tick b = Some Inner
+role Ticked b = cond (b == 39) (Some Inner) (Some (bracket b))
+role Sealed b = cond (b == 39 || wide b) (Some Inner) None
+role TickSlash b = Some Inner
+role Escape b = cond (b == 39 || escaped b) (Some Inner) None
 
 abbrev pub start : Scan
 start = record { depth = 0; mode = Plain }
@@ -65,15 +65,14 @@ abbrev pub moved : Role → ℕ → Option ℕ
 moved Opens n = Some (n + 1)
 moved Closes n = cond (n == 0) None (Some (n - 1))
 moved Inner n = Some n
-moved Wrong n = None
 
 abbrev pub at_depth : Mode → Option ℕ → Option Scan
 at_depth m None = None
 at_depth m (Some n) = Some (record { depth = n; mode = m })
 
--- where a scan stands behind a byte, unless the byte closes what is not open, or is wrong in a quote
+-- where a scan stands behind a byte, unless the byte closes what is not open, or cannot stand there
 unfoldable pub after : Scan → ℕ → Option Scan
-after s b = at_depth (next_mode s.mode b) (moved (role s.mode b) s.depth)
+after s b = at_depth (next_mode s.mode b) (option_and_then (λ r. moved r s.depth) (role s.mode b))
 
 -- no quote is open
 abbrev ended : Mode → Bool

@@ -2,7 +2,7 @@
 use Rattle.std.specs.Prelude.{◌≡◌, ℕ, ◌+◌, ◌<◌, Bool, true, false, cond, ◌&&◌, List, [], ◌∷◌, ◌++◌, length, Some, None, Option, ◌==◌}
 use Rattle.std.specs.List.{flat_map, AllByRecursion}
 use Rattle.listing.specs.declared.scanning.Scan.{Scan}
-use Rattle.listing.specs.declared.spans.Span.{Span}
+use Rattle.spans.specs.declared.Span.{Span}
 use Rattle.listing.specs.declared.faults.Fault.{Fault}
 use Rattle.listing.specs.declared.faults.Reason.TheVariants.{Unopened, Unclosed}
 use Rattle.listing.specs.Nesting.{after, closed, start}

@@ -2,12 +2,12 @@
 ghost use Rattle.std.specs.Prelude.{◌≡◌, ◌+◌, map, length, IfOk, vec_len};
 ghost use Rattle.listing.specs.Answered.{Reads};
 ghost use Rattle.listing.specs.Nesting.{start};
-ghost use Rattle.listing.specs.Parts.{part};
+ghost use Rattle.spans.specs.Parts.{part};
 ghost use Rattle.listing.specs.Pieces.{Adjacent, Cut, fault, separators, splits};
 
-use crate::faults::{Fault, ReadError, Reason};
+use crate::faults::{ReadError, Reason};
 use crate::scanning::Scan;
-use crate::spans::Span;
+use spans::Span;
 use std::alloc::Global;
 
 // Whether `b` separates two pieces.
@@ -26,6 +26,7 @@ pub fn cut(heap: Global, text: &[u8], separator: u8) -> Result<Vec<Span>, ReadEr
     let mut spans = Vec::new(heap);
     let mut from = 0;
     let mut scan = Scan::start();
+    // No `split`, since what stands before a byte decides whether it separates.
     for (i, b) in text.iter().enumerate() {
         if is_split(separator, scan, *b) {
             spans.push(Span {
@@ -35,20 +36,13 @@ pub fn cut(heap: Global, text: &[u8], separator: u8) -> Result<Vec<Span>, ReadEr
             from = i + 1;
             scan = Scan::start();
         } else {
-            let Some(next) = scan.after(*b) else {
-                return Err(ReadError::Unreadable(Fault {
-                    at: i,
-                    reason: Reason::Unopened,
-                }));
-            };
-            scan = next;
+            scan = scan
+                .after(*b)
+                .ok_or(ReadError::unreadable(i, Reason::Unopened))?;
         }
     }
     if !scan.closed() {
-        return Err(ReadError::Unreadable(Fault {
-            at: text.len(),
-            reason: Reason::Unclosed,
-        }));
+        return Err(ReadError::unreadable(text.len(), Reason::Unclosed));
     }
     spans.push(Span {
         from,

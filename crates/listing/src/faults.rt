@@ -1,8 +1,11 @@
 // Why a text cannot be read.
-ghost use Rattle.std.specs.Prelude.{◌≡◌};
+ghost use Rattle.std.specs.Prelude.{◌≡◌, Some};
+ghost use Rattle.listing.specs.Words.{error_words, fault_words, reason_words};
 ghost use Rattle.listing.specs.declared.faults.ReadError.TheVariants.{NoMemory};
 
 use std::alloc::{AllocError, AllocFailed};
+use std::error::Error;
+use std::fmt;
 
 #[derive(Clone, Copy, PartialEq, Eq, Debug)]
 pub enum Reason {
@@ -31,6 +34,27 @@ pub enum Reason {
     Heading,
 }
 
+impl fmt::Display for Reason {
+    ghost output = { λ r. Some (reason_words r) };
+
+    fn fmt<W: fmt::Write>(&self, f: &mut fmt::Formatter<W>) -> fmt::Result {
+        f.write_str(match self {
+            Reason::Unopened =>
+                "a bracket is closed that is not open, or an apostrophe is out of place",
+            Reason::Unclosed => "a bracket or a quote is not closed",
+            Reason::Empty => "nothing stands between two commas",
+            Reason::Many => "there are too many arguments",
+            Reason::Name => "a name should stand here",
+            Reason::Behind => "what stands behind a name is no list",
+            Reason::Colons => "names are joined by two colons",
+            Reason::Row => "a row is written 'name, Name or const NAME",
+            Reason::Default => "a default is a number, a name, 'static or a row's lifetime",
+            Reason::Twice => "a template of this name is declared already",
+            Reason::Heading => "no heading stands before this line",
+        })
+    }
+}
+
 // The byte, counted from 0, at which a text cannot be read, and why.
 #[derive(Clone, Copy, PartialEq, Eq, Debug)]
 pub struct Fault {
@@ -38,11 +62,42 @@ pub struct Fault {
     pub reason: Reason,
 }
 
+impl fmt::Display for Fault {
+    ghost output = { λ u. Some (fault_words u) };
+
+    fn fmt<W: fmt::Write>(&self, f: &mut fmt::Formatter<W>) -> fmt::Result {
+        let column = self.at.saturating_add(1);
+        write!(f, "cannot be read, column {column}: {}", self.reason)
+    }
+}
+
 #[derive(Clone, Copy, PartialEq, Eq, Debug)]
 pub enum ReadError {
     Unreadable(Fault),
     NoMemory,
 }
+
+impl ReadError {
+    // The text cannot be read at the byte `at`.
+    pub fn unreadable(at: usize, reason: Reason) -> ReadError
+        ensures { result ≡ ReadError.Unreadable (record { at = at; reason = reason }) }
+    {
+        ReadError::Unreadable(Fault { at, reason })
+    }
+}
+
+impl fmt::Display for ReadError {
+    ghost output = { λ e. Some (error_words e) };
+
+    fn fmt<W: fmt::Write>(&self, f: &mut fmt::Formatter<W>) -> fmt::Result {
+        match self {
+            ReadError::Unreadable(fault) => write!(f, "{fault}"),
+            ReadError::NoMemory => write!(f, "memory allocation failed"),
+        }
+    }
+}
+
+impl Error for ReadError {}
 
 impl From<AllocError> for ReadError {
     ghost from_gives = { λ _ r. r ≡ NoMemory };

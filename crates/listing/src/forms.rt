@@ -1,44 +1,34 @@
 // The form that an argument is written in.
-ghost use Rattle.std.specs.Prelude.{◌≡◌};
-ghost use Rattle.listing.specs.Tokens.{begins_constant, form, quoted};
+ghost use Rattle.std.specs.Prelude.{◌≡◌, slice_index};
+ghost use Rattle.listing.specs.Tokens.{begins_constant, form, truth};
 
-use crate::names::{first_byte, is_same};
 use crate::shapes::is_path;
 use path::args::Form;
 
-// Whether what begins with an apostrophe ends with one too.
-fn is_quoted(text: &[u8]) -> bool
-    ensures { result ≡ quoted text.now }
+// Whether `text` begins as a number, a text or a block does.
+fn is_constant_start(text: &[u8]) -> bool
+    ensures { result ≡ begins_constant (slice_index text.now 0) }
 {
-    text.len() > 2 && text[text.len() - 1] == b'\''
+    matches!(text, [b'0'..=b'9' | b'-' | b'"' | b'{', ..])
 }
 
-// Whether a number, a text or a block begins with `b`.
-fn is_constant_start(b: u8) -> bool
-    ensures { result ≡ begins_constant b }
+// Whether `text` is a truth value.
+fn is_truth(text: &[u8]) -> bool
+    ensures { result ≡ truth text.now }
 {
-    b.is_ascii_digit() || b == b'-' || b == b'"' || b == b'{'
+    text == b"true".as_slice() || text == b"false".as_slice()
 }
 
 // The form of an argument that has no white space around it.
 pub fn form_of(text: &[u8]) -> Form
     ensures { result ≡ form text.now }
 {
-    let first = first_byte(text);
-    if first == b'\'' {
-        return if is_quoted(text) {
-            Form::Constant
-        } else {
-            Form::Lifetime
-        };
-    }
-    if is_same(text, b"_") {
-        Form::Placeholder
-    } else if is_constant_start(first) || is_same(text, b"true") || is_same(text, b"false") {
-        Form::Constant
-    } else if is_path(text) {
-        Form::Path
-    } else {
-        Form::Type
+    match text {
+        [b'\'', _, .., b'\''] => Form::Constant,
+        [b'\'', ..] => Form::Lifetime,
+        [b'_'] => Form::Placeholder,
+        _ if is_constant_start(text) || is_truth(text) => Form::Constant,
+        _ if is_path(text) => Form::Path,
+        _ => Form::Type,
     }
 }

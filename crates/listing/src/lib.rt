@@ -16,6 +16,5 @@ pub mod lists;
 pub mod names;
 mod scanning;
 mod shapes;
-pub mod spans;
 #[cfg(test)]
 mod tests;

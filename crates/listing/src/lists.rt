@@ -5,22 +5,18 @@ ghost use Rattle.listing.specs.Arguments.{Listed, Refused, args_of, bare, first_
 
 use crate::blanks::{is_blank, trim};
 use crate::cutting::cut;
-use crate::faults::{Fault, ReadError, Reason};
+use crate::faults::{ReadError, Reason};
 use crate::forms::form_of;
-use crate::spans::Span;
 use path::args::{Form, GenericArg};
+use spans::Span;
 use std::alloc::Global;
 
 // Where the first blank one of `spans` begins, if one is blank.
 fn blank_at(text: &[u8], spans: &[Span]) -> Option<usize>
     ensures { result ≡ first_blank text.now spans.now }
 {
-    for span in spans {
-        if is_blank(span.of(text)) {
-            return Some(span.from);
-        }
-    }
-    None
+    let blank = spans.iter().find(|span| is_blank(span.of(text)))?;
+    Some(blank.from)
 }
 
 // The written arguments of the list whose text, between `<` and `>`, is `text`: one for each, in order. A list
@@ -29,16 +25,9 @@ pub fn arguments(heap: Global, text: &[u8]) -> Result<Vec<Span>, ReadError>
     ensures { Listed vec_items text.now result }
 {
     let mut spans = cut(heap, text, b',')?;
-    if let Some(last) = spans.pop() {
-        if !is_blank(last.of(text)) {
-            spans.push(last)?;
-        }
-    }
+    spans.pop_if(|last| is_blank(last.of(text)));
     match blank_at(text, spans.as_slice()) {
-        Some(at) => Err(ReadError::Unreadable(Fault {
-            at,
-            reason: Reason::Empty,
-        })),
+        Some(at) => Err(ReadError::unreadable(at, Reason::Empty)),
         None => Ok(spans),
     }
 }
@@ -79,10 +68,7 @@ pub fn read_list(
     let spans = arguments(heap, text)?;
     let count = args.len().saturating_add(spans.len());
     if count > 0x1_0000_0000 {
-        return Err(ReadError::Unreadable(Fault {
-            at: 0,
-            reason: Reason::Many,
-        }));
+        return Err(ReadError::unreadable(0, Reason::Many));
     }
     args.reserve(spans.len())?;
     push_arguments(text, spans.as_slice(), args);

@@ -1,6 +1,6 @@
 // How brackets and quotes nest, byte by byte.
-ghost use Rattle.std.specs.Prelude.{◌≡◌, ◌+◌, ◌^◌, ◌<◌, ◌||◌, if◌then◌else◌, nat_eq};
-ghost use Rattle.listing.specs.Nesting.{next_mode, role, after, closed, start, letter, name_byte, escaped};
+ghost use Rattle.std.specs.Prelude.{◌≡◌, ◌+◌, ◌^◌, ◌<◌};
+ghost use Rattle.listing.specs.Nesting.{next_mode, bracket, role, after, closed, start, letter, name_byte, escaped};
 
 // What the bytes before say of the next one.
 #[derive(Clone, Copy)]
@@ -27,13 +27,12 @@ pub enum Mode {
     Escape,
 }
 
-// What a byte does to the nesting; `Wrong` says that it cannot stand there.
+// What a byte does to the nesting.
 #[derive(Clone, Copy)]
 pub enum Role {
     Opens,
     Closes,
     Inner,
-    Wrong,
 }
 
 // How many brackets are open, and what the last bytes say.
@@ -61,17 +60,12 @@ pub(crate) fn is_name_byte(byte: u8) -> bool
 fn fresh_mode(byte: u8) -> Mode
     ensures { result ≡ next_mode Mode.Plain byte }
 {
-    match byte as char {
-        '"' => Mode::Text,
-        '\'' => Mode::Tick,
-        '-' => Mode::Dash,
-        _ => {
-            if is_name_byte(byte) {
-                Mode::Word
-            } else {
-                Mode::Plain
-            }
-        }
+    match byte {
+        b'"' => Mode::Text,
+        b'\'' => Mode::Tick,
+        b'-' => Mode::Dash,
+        _ if is_name_byte(byte) => Mode::Word,
+        _ => Mode::Plain,
     }
 }
 
@@ -79,43 +73,36 @@ fn fresh_mode(byte: u8) -> Mode
 fn ticked_mode(byte: u8) -> Mode
     ensures { result ≡ next_mode Mode.Tick byte }
 {
-    if byte == b'\\' {
-        Mode::TickSlash
-    } else if is_name_byte(byte) {
-        Mode::Ticked
-    } else {
-        Mode::Sealed
+    match byte {
+        b'\\' => Mode::TickSlash,
+        _ if is_name_byte(byte) => Mode::Ticked,
+        _ => Mode::Sealed,
     }
 }
 
 // The mode behind `byte`.
-pub(crate) fn mode_after(mode: Mode, byte: u8) -> Mode
+fn mode_after(mode: Mode, byte: u8) -> Mode
     ensures { result ≡ next_mode mode byte }
 {
-    let ends = byte == b'\'';
-    match mode {
-        Mode::Plain | Mode::Word | Mode::Dash => fresh_mode(byte),
-        Mode::Text => match byte as char {
-            '"' => Mode::Plain,
-            '\\' => Mode::TextSlash,
-            _ => Mode::Text,
-        },
-        Mode::TextSlash => Mode::Text,
-        Mode::Tick => ticked_mode(byte),
-        Mode::Ticked => { if ends { Mode::Plain } else { fresh_mode(byte) } }
-        Mode::Sealed => { if ends { Mode::Plain } else { Mode::Sealed } }
-        Mode::TickSlash => Mode::Escape,
-        Mode::Escape => { if ends { Mode::Plain } else { Mode::Escape } }
+    match (mode, byte) {
+        (Mode::Plain | Mode::Word | Mode::Dash, _) => fresh_mode(byte),
+        (Mode::Text, b'"') | (Mode::Ticked | Mode::Sealed | Mode::Escape, b'\'') => Mode::Plain,
+        (Mode::Ticked, _) => fresh_mode(byte),
+        (Mode::Text, b'\\') => Mode::TextSlash,
+        (Mode::Text | Mode::TextSlash, _) => Mode::Text,
+        (Mode::Tick, _) => ticked_mode(byte),
+        (Mode::Sealed, _) => Mode::Sealed,
+        (Mode::TickSlash | Mode::Escape, _) => Mode::Escape,
     }
 }
 
 // What a byte outside quotes does to the nesting.
 fn bracket_role(byte: u8) -> Role
-    ensures { result ≡ role Mode.Plain byte }
+    ensures { result ≡ bracket byte }
 {
-    match byte as char {
-        '<' | '(' | '[' | '{' => Role::Opens,
-        '>' | ')' | ']' | '}' => Role::Closes,
+    match byte {
+        b'<' | b'(' | b'[' | b'{' => Role::Opens,
+        b'>' | b')' | b']' | b'}' => Role::Closes,
         _ => Role::Inner,
     }
 }
@@ -124,50 +111,21 @@ fn bracket_role(byte: u8) -> Role
 fn is_escaped(byte: u8) -> bool
     ensures { result ≡ escaped byte }
 {
-    is_name_byte(byte) || byte == b'{' || byte == b'}'
+    is_name_byte(byte) || matches!(byte, b'{' | b'}')
 }
 
-// What a byte does in a quoted character, where it ends it, goes on with it, or is wrong.
-fn quoted_role(goes_on: bool, byte: u8) -> Role
-    ensures { result ≡ (if nat_eq byte 39 || goes_on then Role.Inner else Role.Wrong) }
-{
-    if byte == b'\'' || goes_on {
-        Role::Inner
-    } else {
-        Role::Wrong
-    }
-}
-
-// What `byte` does to the nesting.
-pub(crate) fn role_of(mode: Mode, byte: u8) -> Role
+// What `byte` does to the nesting, if it can stand there.
+fn role_of(mode: Mode, byte: u8) -> Option<Role>
     ensures { result ≡ role mode byte }
 {
-    match mode {
-        Mode::Text | Mode::TextSlash | Mode::Tick | Mode::TickSlash => Role::Inner,
-        Mode::Plain => bracket_role(byte),
-        Mode::Word => {
-            if byte == b'\'' {
-                Role::Wrong
-            } else {
-                bracket_role(byte)
-            }
-        }
-        Mode::Dash => {
-            if byte == b'>' {
-                Role::Inner
-            } else {
-                bracket_role(byte)
-            }
-        }
-        Mode::Ticked => {
-            if byte == b'\'' {
-                Role::Inner
-            } else {
-                bracket_role(byte)
-            }
-        }
-        Mode::Sealed => quoted_role(byte > 127, byte),
-        Mode::Escape => quoted_role(is_escaped(byte), byte),
+    match (mode, byte) {
+        (Mode::Text | Mode::TextSlash | Mode::Tick | Mode::TickSlash, _)
+        | (Mode::Dash, b'>')
+        | (Mode::Ticked | Mode::Sealed | Mode::Escape, b'\'')
+        | (Mode::Sealed, 128..) => Some(Role::Inner),
+        (Mode::Escape, _) if is_escaped(byte) => Some(Role::Inner),
+        (Mode::Word, b'\'') | (Mode::Sealed | Mode::Escape, _) => None,
+        (Mode::Plain | Mode::Word | Mode::Dash | Mode::Ticked, _) => Some(bracket_role(byte)),
     }
 }
 
@@ -182,47 +140,30 @@ impl Scan {
         }
     }
 
-    // Where the scan stands behind `byte`, unless `byte` closes what is not open or is wrong in a quote.
+    // Where the scan stands behind `byte`, unless `byte` closes what is not open or cannot stand there.
+    #[tactic(auto, unfolding(crate::specs::Nesting::after))]
     pub(crate) fn after(self, byte: u8) -> Option<Scan>
         requires { self.depth + 1 < 2 ^ 64 }
         ensures { result ≡ after self byte }
     {
         let mode = mode_after(self.mode, byte);
-        match role_of(self.mode, byte) {
-            Role::Opens => Some(Scan {
-                depth: self.depth + 1,
-                mode,
-            }),
-            Role::Closes => {
-                if self.depth == 0 {
-                    None
-                } else {
-                    Some(Scan {
-                        depth: self.depth - 1,
-                        mode,
-                    })
-                }
-            }
-            Role::Inner => Some(Scan {
-                depth: self.depth,
-                mode,
-            }),
-            Role::Wrong => None,
-        }
+        let depth = match role_of(self.mode, byte)? {
+            Role::Opens => self.depth + 1,
+            Role::Closes => self.depth.checked_sub(1)?,
+            Role::Inner => self.depth,
+        };
+        Some(Scan { depth, mode })
     }
 
     // Whether no bracket is open, and no quote.
+    #[tactic(auto, unfolding(crate::specs::Nesting::closed))]
     pub(crate) fn closed(self) -> bool
         ensures { result ≡ closed self }
     {
-        match self.mode {
-            Mode::Plain | Mode::Word | Mode::Dash | Mode::Ticked => self.depth == 0,
-            Mode::Text
-            | Mode::TextSlash
-            | Mode::Tick
-            | Mode::Sealed
-            | Mode::TickSlash
-            | Mode::Escape => false,
-        }
+        self.depth == 0
+            && matches!(
+                self.mode,
+                Mode::Plain | Mode::Word | Mode::Dash | Mode::Ticked
+            )
     }
 }

@@ -1,10 +1,10 @@
 // The shape of a path, byte by byte.
 ghost use Rattle.std.specs.Prelude.{◌≡◌, ◌+◌, ◌^◌, ◌<◌};
 ghost use Rattle.listing.specs.Tokens.{deep, ends, inside, path_from, place_after};
-ghost use Rattle.listing.specs.declared.shapes.Place.TheVariants.{First, Gap};
+ghost use Rattle.listing.specs.declared.shapes.Place.TheVariants.{First};
 
 use crate::blanks::is_white;
-use crate::scanning::{Mode, Scan, is_letter};
+use crate::scanning::{Mode, Scan, is_letter, is_name_byte};
 
 // A place in a path.
 #[derive(Clone, Copy)]
@@ -25,34 +25,15 @@ pub enum Place {
     Behind,
 }
 
-// The place behind a name and `byte`.
-fn behind_name(byte: u8) -> Option<Place>
-    ensures { result ≡ place_after Gap byte }
+// The place behind one more byte of a list, behind which the scan of the list stands at `scan`.
+fn in_list(scan: Scan) -> Place
+    ensures { Some result ≡ inside (Some scan) }
 {
-    if is_white(byte) {
-        Some(Place::Gap)
-    } else {
-        match byte as char {
-            ':' => Some(Place::Colon),
-            '<' => Some(Place::Inside(Scan {
-                depth: 1,
-                mode: Mode::Plain,
-            })),
-            _ => None,
-        }
-    }
-}
-
-// The place in a list behind one more byte of it.
-fn in_list(scan: Option<Scan>) -> Option<Place>
-    ensures { result ≡ inside scan }
-{
-    let scan = scan?;
-    Some(if scan.closed() {
+    if scan.closed() {
         Place::Behind
     } else {
         Place::Inside(scan)
-    })
+    }
 }
 
 impl Place {
@@ -61,23 +42,20 @@ impl Place {
         requires { deep self + 1 < 2 ^ 64 }
         ensures { result ≡ place_after self byte }
     {
-        match self {
-            Place::First | Place::Next if is_letter(byte) => Some(Place::Name),
-            Place::First => None,
-            Place::Next if is_white(byte) => Some(Place::Next),
-            Place::Next if byte == b'<' => Some(Place::Inside(Scan {
+        match (self, byte) {
+            (Place::First | Place::Next, _) if is_letter(byte) => Some(Place::Name),
+            (Place::Name, _) if is_name_byte(byte) => Some(Place::Name),
+            (Place::Next, _) if is_white(byte) => Some(Place::Next),
+            (Place::Name | Place::Gap, _) if is_white(byte) => Some(Place::Gap),
+            (Place::Behind, _) if is_white(byte) => Some(Place::Behind),
+            (Place::Name | Place::Gap | Place::Behind, b':') => Some(Place::Colon),
+            (Place::Colon, b':') => Some(Place::Next),
+            (Place::Next | Place::Name | Place::Gap, b'<') => Some(Place::Inside(Scan {
                 depth: 1,
                 mode: Mode::Plain,
             })),
-            Place::Next => None,
-            Place::Name if is_letter(byte) || byte.is_ascii_digit() => Some(Place::Name),
-            Place::Name | Place::Gap => behind_name(byte),
-            Place::Colon if byte == b':' => Some(Place::Next),
-            Place::Colon => None,
-            Place::Inside(scan) => in_list(scan.after(byte)),
-            Place::Behind if is_white(byte) => Some(Place::Behind),
-            Place::Behind if byte == b':' => Some(Place::Colon),
-            Place::Behind => None,
+            (Place::Inside(scan), _) => scan.after(byte).map(in_list),
+            _ => None,
         }
     }
 
@@ -85,10 +63,7 @@ impl Place {
     fn ends(self) -> bool
         ensures { result ≡ ends self }
     {
-        match self {
-            Place::Name | Place::Gap | Place::Behind => true,
-            Place::First | Place::Next | Place::Colon | Place::Inside(_) => false,
-        }
+        matches!(self, Place::Name | Place::Gap | Place::Behind)
     }
 }
 
@@ -96,6 +71,8 @@ impl Place {
 pub(crate) fn is_path(text: &[u8]) -> bool
     ensures { result ≡ path_from First text.now }
 {
+    // A `try_fold` was tried and its proof did not close: its closure cannot know how deep a place is, which the loop's
+    // invariant says.
     let mut place = Place::First;
     for byte in text {
         let Some(next) = place.after(*byte) else {

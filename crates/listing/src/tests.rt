@@ -2,8 +2,8 @@ use crate::blanks::trim;
 use crate::faults::{Fault, ReadError, Reason};
 use crate::forms::form_of;
 use crate::lists::arguments;
-use crate::spans::Span;
 use path::args::Form;
+use spans::Span;
 use std::test::Fail;
 
 #[test]
