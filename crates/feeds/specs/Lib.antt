@@ -1,3 +1,2 @@
 pub mod Resolves
-pub mod Saying
 pub mod Segments

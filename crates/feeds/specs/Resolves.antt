@@ -1,10 +1,12 @@
 -- What a path names, by the names of its segments. Assumes nothing.
-use Rattle.std.specs.Prelude.{ℕ, ◌+◌, Bool, cond, ◌||◌, List, [], ◌∷◌, Some, None, vec_items, codes, Option}
+use Rattle.std.specs.Prelude.{ℕ, ◌+◌, Bool, cond, List, [], ◌∷◌, ◌++◌, Some, None, vec_items, codes, Option}
+use Rattle.std.specs.List.{find, list_any}
+use Rattle.std.specs.Option.{option_map}
 use Rattle.std.specs.Str.{bytes_eq}
 use Rattle.path.specs.declared.segments.TypeNs.{TypeNs}
 use Rattle.path.specs.declared.segments.TypeNs.TheVariants as kind
-use Rattle.listing.specs.declared.spans.Span.{Span}
-use Rattle.listing.specs.Parts.{part}
+use Rattle.spans.specs.declared.Span.{Span}
+use Rattle.spans.specs.Parts.{part}
 use Rattle.feeds.specs.declared.known.Template.{Template}
 use Rattle.feeds.specs.declared.known.Meant.{Meant}
 use Rattle.feeds.specs.declared.known.Meant.TheVariants as meant
@@ -12,32 +14,30 @@ use Rattle.feeds.specs.declared.known.Resolved.{Resolved}
 
 -- the number of the first template of that name
 abbrev pub numbered : List Template → List ℕ → Option ℕ
-numbered [] n = None
-numbered (t ∷ ts) n = cond (bytes_eq (vec_items t.name) n) (Some t.number) (numbered ts n)
+numbered ts n = option_map (λ t. t.number) (find (λ t. bytes_eq (vec_items t.name) n) ts)
 
-abbrev pub unsigned : List ℕ → Bool
-unsigned n = bytes_eq n (codes "u8") || bytes_eq n (codes "u16") || bytes_eq n (codes "u32") || bytes_eq n (codes "u64") || bytes_eq n (codes "u128") || bytes_eq n (codes "usize")
+abbrev unsigned : List (List ℕ)
+unsigned = codes "u8" ∷ codes "u16" ∷ codes "u32" ∷ codes "u64" ∷ codes "u128" ∷ codes "usize" ∷ []
 
-abbrev pub signed : List ℕ → Bool
-signed n = bytes_eq n (codes "i8") || bytes_eq n (codes "i16") || bytes_eq n (codes "i32") || bytes_eq n (codes "i64") || bytes_eq n (codes "i128") || bytes_eq n (codes "isize")
+abbrev signed : List (List ℕ)
+signed = codes "i8" ∷ codes "i16" ∷ codes "i32" ∷ codes "i64" ∷ codes "i128" ∷ codes "isize" ∷ []
 
-abbrev pub plain : List ℕ → Bool
-plain n = bytes_eq n (codes "bool") || bytes_eq n (codes "char") || bytes_eq n (codes "str") || bytes_eq n (codes "f32") || bytes_eq n (codes "f64")
+abbrev plain : List (List ℕ)
+plain = codes "bool" ∷ codes "char" ∷ codes "str" ∷ codes "f32" ∷ codes "f64" ∷ []
 
 -- the name of a built-in type
 unfoldable pub builtin : List ℕ → Bool
-builtin n = unsigned n || signed n || plain n
+builtin n = list_any (λ name. bytes_eq name n) (unsigned ++ signed ++ plain)
 
 -- what a name stands for: a template, else a built-in type or Self
-abbrev pub meant_by : List Template → List ℕ → Meant
-meant_by ts n = elim (numbered ts n) [ None ↦ cond (builtin n) meant.Builtin (cond (bytes_eq n (codes "Self")) meant.OwnType meant.Unknown) | Some k ↦ meant.Template k ]
+abbrev pub meant_by : List Template → List ℕ → Option Meant
+meant_by ts n = elim (numbered ts n) [ None ↦ cond (builtin n) (Some meant.Builtin) (cond (bytes_eq n (codes "Self")) (Some meant.OwnType) None) | Some k ↦ Some (meant.Template k) ]
 
 -- the kind of path that ends there
-abbrev pub kind_by : Meant → Option TypeNs
-kind_by (meant.Template k) = Some kind.Adt
-kind_by meant.Builtin = Some kind.BuiltinType
-kind_by meant.OwnType = Some kind.SelfType
-kind_by meant.Unknown = None
+abbrev pub kind_of : Meant → TypeNs
+kind_of (meant.Template k) = kind.Adt
+kind_of meant.Builtin = kind.BuiltinType
+kind_of meant.OwnType = kind.SelfType
 
 -- the index, if a name is left
 abbrev pub left_over : List Span → ℕ → Option ℕ
@@ -46,9 +46,9 @@ left_over (s ∷ ss) i = Some i
 
 -- no name stands for anything
 abbrev pub a_module : Resolved
-a_module = record { meant = meant.Unknown; resolution = record { kind = kind.Module; remaining = None } }
+a_module = record { meant = None; resolution = record { kind = kind.Module; remaining = None } }
 
 -- the first name from the left that stands for something, counted from i on
 abbrev pub first_known : List Template → List ℕ → List Span → ℕ → Resolved
 first_known ts line [] i = a_module
-first_known ts line (s ∷ ss) i = elim (kind_by (meant_by ts (part line s))) [ None ↦ first_known ts line ss (i + 1) | Some k ↦ record { meant = meant_by ts (part line s); resolution = record { kind = k; remaining = left_over ss (i + 1) } } ]
+first_known ts line (s ∷ ss) i = elim (meant_by ts (part line s)) [ None ↦ first_known ts line ss (i + 1) | Some m ↦ record { meant = Some m; resolution = record { kind = kind_of m; remaining = left_over ss (i + 1) } } ]

@@ -1,11 +1,10 @@
 -- What is read of a path. Assumes nothing.
-use Rattle.std.specs.Prelude.{◌≡◌, ℕ, List, ◌++◌, map, length, vec_len}
+use Rattle.std.specs.Prelude.{◌≡◌, ℕ, List, ◌++◌, map, length}
 use Rattle.path.specs.declared.args.GenericArg.{GenericArg}
 use Rattle.path.specs.declared.segments.GenericArgs.{GenericArgs}
-use Rattle.listing.specs.declared.spans.Span.{Span}
+use Rattle.spans.specs.declared.Span.{Span}
 use Rattle.listing.specs.Arguments.{Written, args_of}
-use Rattle.listing.specs.Parts.{part}
-use Rattle.feeds.specs.declared.paths.PathText.{PathText}
+use Rattle.spans.specs.Parts.{part}
 
 -- the list stands behind the arguments that were read before: one argument for each that is written, in order
 pub record ListRead (text : List ℕ) (old new : List GenericArg) (g : GenericArgs) : Type 0 where
@@ -14,7 +13,3 @@ pub record ListRead (text : List ℕ) (old new : List GenericArg) (g : GenericAr
   pub added : new ≡ old ++ args_of text (length old) spans
   pub start : g.start ≡ length old
   pub len : g.len ≡ length spans
-
--- each segment has a name
-abbrev pub Paired : PathText → Type 0
-Paired p = vec_len p.names ≡ vec_len p.segments

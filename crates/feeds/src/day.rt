@@ -1,58 +1,53 @@
 // The lines of a day, one after the other.
 use crate::known::{Template, resolve, template_of};
-use crate::line_places::{trim_at, unreadable};
+use crate::line::Line;
+use crate::parts::Part;
 use crate::paths::read_path;
-use crate::templates::{RowText, TemplateText, Word, read_template, row_of};
-use crate::told::{Told, tell_declared, tell_refused, tell_unchecked, tell_unread};
+use crate::templates::{RowText, Word, read_template, row_of};
+use crate::told::Told;
 use crate::unwritten::Unwritten;
 use definitions::kinds::{Declaration, GenericDefKind, GenericParam, Mark};
 use diagnostics::own::OwnReports;
 use generics::catalogue::Catalogue;
-use generics::declare::DeclareRefusal;
+use indexmap::IndexSet;
 use listing::faults::Reason;
-use listing::names::is_same;
-use listing::spans::Span;
 use path::checked::check_path;
 use std::alloc::{AllocError, Global};
 use std::io;
 
+// What the lines under a heading are. A match on the two says what is done; a closure for each would say no more.
 #[derive(Clone, Copy)]
 enum Section {
-    Before,
     Templates,
     Schedule,
 }
 
-// What is known of the day so far. A base type is numbered by its place in `bases`. `unwritten` says whether each
-// template's rows are told as they would be if nothing were written.
+// The section that a heading begins.
+fn headed(text: &[u8]) -> Option<Section> {
+    match text {
+        b"[templates]" => Some(Section::Templates),
+        b"[schedule]" => Some(Section::Schedule),
+        _ => None,
+    }
+}
+
+// What is known of the day so far. A base type is numbered by its place in `bases`. `templates` is a list, since the
+// first of two templates of one name is meant, and they are read by number too. `unwritten` is a wish of the caller's:
+// whether each template's rows are told as they would be if nothing were written.
 #[derive(Drop)]
 pub struct Day {
     heap: Global,
-    section: Section,
+    section: Option<Section>,
     catalogue: Catalogue,
     templates: Vec<Template>,
-    bases: Vec<Vec<u8>>,
+    bases: IndexSet<Vec<u8>>,
     unwritten: bool,
-}
-
-// The place of the base type of that name.
-fn base_number(bases: &[Vec<u8>], name: &[u8]) -> Option<usize> {
-    for (i, base) in bases.iter().enumerate() {
-        if is_same(base.as_slice(), name) {
-            return Some(i);
-        }
-    }
-    None
 }
 
 // `n`, or the greatest number there is. A row or a name of so high a number is refused by the catalogue or has
 // found no memory before.
 fn as_number(n: usize) -> u32 {
-    if n > 0xffff_ffff {
-        0xffff_ffff
-    } else {
-        n as u32
-    }
+    u32::try_from(n).unwrap_or(u32::MAX)
 }
 
 // The rows as they are declared; each default is the mark at the row's place.
@@ -61,188 +56,131 @@ fn params_of<'a>(
     rows: &[RowText],
     marks: &'a [Mark],
 ) -> Result<Vec<GenericParam<'a>>, AllocError> {
-    let mut params = Vec::new(heap);
-    for (i, row) in rows.iter().enumerate() {
-        let default = if row.default.is_some() && i < marks.len() {
-            Some(&marks[i..i + 1])
-        } else {
-            None
-        };
-        params.push(GenericParam {
+    rows.iter()
+        .zip(marks.chunks(1))
+        .map(|(row, mark)| GenericParam {
             kind: row.kind,
-            default,
-        })?;
-    }
-    Ok(params)
-}
-
-// A type with these rows.
-fn adt<'a, 'b>(rows: &'a [GenericParam<'b>]) -> Declaration<'a, 'b, 'static> {
-    Declaration {
-        kind: GenericDefKind::Adt,
-        parent: None,
-        rows,
-        body: None,
-    }
+            default: row.default.map(|_| mark),
+        })
+        .collect(heap)
 }
 
 impl Day {
     pub(crate) fn new(heap: Global, unwritten: bool) -> Result<Day, AllocError> {
         Ok(Day {
             heap,
-            section: Section::Before,
+            section: None,
             catalogue: Catalogue::new(heap)?,
             templates: Vec::new(heap),
-            bases: Vec::new(heap),
+            bases: IndexSet::new(heap),
             unwritten,
         })
     }
 
     // The number of the base type of that name.
     fn base_of(&mut self, name: &[u8]) -> Result<u32, AllocError> {
-        if let Some(i) = base_number(self.bases.as_slice(), name) {
-            return Ok(as_number(i));
-        }
-        let number = as_number(self.bases.len());
-        self.bases.push(Vec::from_slice(self.heap, name)?)?;
-        Ok(number)
+        let (number, _) = self.bases.insert_full(Vec::from_slice(self.heap, name)?)?;
+        Ok(as_number(number))
     }
 
     // A name as default: a row of the template, else a template, else a base type.
-    fn named_mark(
-        &mut self,
-        line: &[u8],
-        rows: &[RowText],
-        place: Span,
-    ) -> Result<Mark, AllocError> {
-        let name = place.of(line);
-        if let Some(i) = row_of(line, rows, name) {
+    fn named_mark(&mut self, rows: &[RowText], name: &[u8]) -> Result<Mark, AllocError> {
+        if let Some(i) = row_of(rows, name) {
             return Ok(Mark::Ref(as_number(i)));
         }
-        if let Some(number) = template_of(self.templates.as_slice(), name) {
+        if let Some(number) = template_of(&self.templates, name) {
             return Ok(Mark::Head(number));
         }
         Ok(Mark::Base(self.base_of(name)?))
     }
 
     // The mark of each row's default; a row without one has a mark that is not used.
-    fn marks_of(&mut self, line: &[u8], rows: &[RowText]) -> Result<Vec<Mark>, AllocError> {
+    fn marks_of(&mut self, rows: &[RowText]) -> Result<Vec<Mark>, AllocError> {
         let mut marks = Vec::new(self.heap);
         for row in rows {
-            let mark = match row.default {
+            marks.push(match row.default {
                 None | Some(Word::Static) => Mark::Region(0),
                 Some(Word::Number(value)) => Mark::Value(value),
-                Some(Word::Name(place)) => self.named_mark(line, rows, place)?,
-                Some(Word::Lifetime(place)) => self.named_mark(line, rows, place)?,
-            };
-            marks.push(mark)?;
+                Some(Word::Name(part) | Word::Lifetime(part)) => self.named_mark(
+                    rows,
+                    part.text(),
+                )?,
+            })?;
         }
         Ok(marks)
     }
 
-    // Declares the template.
-    fn declare(
-        &mut self,
-        line: &[u8],
-        template: &TemplateText,
-    ) -> Result<Result<u32, DeclareRefusal>, AllocError> {
-        let marks = self.marks_of(line, template.rows.as_slice())?;
-        let params = params_of(self.heap, template.rows.as_slice(), marks.as_slice())?;
-        Ok(self.catalogue.declare(adt(params.as_slice())))
-    }
-
-    fn take_template(
-        &mut self,
-        rt: &HostRuntime,
-        number: usize,
-        line: &[u8],
-        place: Span,
-    ) -> io::Result<()> {
-        let template = match read_template(self.heap, line, place, self.templates.as_slice()) {
+    fn take_template(&mut self, rt: &impl Print, part: Part) -> io::Result<()> {
+        let line = part.line;
+        let template = match read_template(self.heap, part, &self.templates) {
             Ok(template) => template,
-            Err(e) => return tell_unread(rt, number, e),
+            Err(e) => return line.tell_unread(rt, e),
         };
-        let name = template.name.of(line);
-        match self.declare(line, &template)? {
+        let name = template.name;
+        let marks = self.marks_of(&template.rows)?;
+        let params = params_of(self.heap, &template.rows, &marks)?;
+        let declaration = Declaration::bare(GenericDefKind::Adt, None, &params);
+        match self.catalogue.declare(declaration) {
             Ok(def) => {
                 let known = Vec::from_slice(self.heap, name)?;
                 self.templates.push(Template {
                     name: known,
                     number: def,
                 })?;
-                tell_declared(rt, number, name, def, template.rows.len())?;
+                line.tell_declared(rt, name, def, template.rows.len())?;
                 if !self.unwritten {
                     return Ok(());
                 }
                 let unwritten = Unwritten {
-                    number,
-                    line,
-                    rows: template.rows.as_slice(),
-                    templates: self.templates.as_slice(),
-                    bases: self.bases.as_slice(),
+                    cat: &self.catalogue,
+                    def,
+                    number: line.number,
+                    rows: &template.rows,
+                    templates: &self.templates,
+                    bases: &self.bases,
                 };
-                unwritten.tell(rt, self.heap, &self.catalogue, def)
+                unwritten.tell(rt, self.heap)
             }
-            Err(refusal) => tell_refused(rt, number, name, refusal),
+            Err(refusal) => line.tell_refused(rt, name, refusal),
         }
     }
 
-    fn take_path(
-        &mut self,
-        rt: &HostRuntime,
-        number: usize,
-        line: &[u8],
-        place: Span,
-    ) -> io::Result<()> {
-        let path = match read_path(self.heap, line, place) {
+    fn take_path(&mut self, rt: &impl Print, part: Part) -> io::Result<()> {
+        let line = part.line;
+        let path = match read_path(self.heap, part) {
             Ok(path) => path,
-            Err(e) => return tell_unread(rt, number, e),
+            Err(e) => return line.tell_unread(rt, e),
         };
-        let resolved = resolve(self.templates.as_slice(), line, path.names.as_slice());
+        let resolved = resolve(&self.templates, line.text, &path.names);
         let mut reports = OwnReports::new();
-        match check_path(path.segments.as_slice(), resolved.resolution, &mut reports) {
+        match check_path(&path.segments, resolved.resolution, &mut reports) {
             Ok(checked) => {
                 let told = Told {
-                    number,
                     line,
                     path: &path,
+                    segment: checked.segment(),
                 };
-                told.all(rt, resolved.meant, checked.segment(), &reports)
+                told.all(rt, resolved.meant, &reports)
             }
-            Err(refusal) => tell_unchecked(rt, number, refusal),
+            Err(refusal) => line.tell_unchecked(rt, refusal),
         }
     }
 
     // Does what the line says, and tells what was done.
-    pub(crate) fn take_line(
-        &mut self,
-        rt: &HostRuntime,
-        number: usize,
-        line: &[u8],
-    ) -> io::Result<()> {
-        let place = trim_at(
-            line,
-            Span {
-                from: 0,
-                len: line.len(),
-            },
-        );
-        let text = place.of(line);
-        if text.is_empty() || text[0] == b'#' {
+    pub(crate) fn take_line(&mut self, rt: &impl Print, line: Line) -> io::Result<()> {
+        let part = Part::whole(line).trimmed();
+        let text = part.text();
+        if text.is_empty() || text.starts_with(b"#") {
             return Ok(());
         }
-        if is_same(text, b"[templates]") {
-            self.section = Section::Templates;
-            return Ok(());
-        }
-        if is_same(text, b"[schedule]") {
-            self.section = Section::Schedule;
+        if let Some(section) = headed(text) {
+            self.section = Some(section);
             return Ok(());
         }
         match self.section {
-            Section::Before => tell_unread(rt, number, unreadable(place.from, Reason::Heading)),
-            Section::Templates => self.take_template(rt, number, line, place),
-            Section::Schedule => self.take_path(rt, number, line, place),
+            None => line.tell_unread(rt, part.unreadable(Reason::Heading)),
+            Some(Section::Templates) => self.take_template(rt, part),
+            Some(Section::Schedule) => self.take_path(rt, part),
         }
     }
 }

@@ -1,10 +1,9 @@
 // The names that a day knows, and what a path names by them.
 ghost use Rattle.std.specs.Prelude.{◌≡◌};
-ghost use Rattle.feeds.specs.Resolves.{builtin, first_known, kind_by, meant_by, numbered, plain, signed, unsigned};
+ghost use Rattle.feeds.specs.Resolves.{builtin, first_known, kind_of, meant_by, numbered};
 
-use listing::names::is_same;
-use listing::spans::Span;
 use path::segments::{Resolution, TypeNs};
+use spans::Span;
 
 // A declared template, by its name and its number in the catalogue.
 #[derive(Drop)]
@@ -19,94 +18,64 @@ pub enum Meant {
     Template(u32),
     Builtin,
     OwnType,
-    Unknown,
 }
 
-// What a path names, and at which segment.
+// The kind of path that ends there.
+impl From<Meant> for TypeNs {
+    ghost from_gives = { λ m r. r ≡ kind_of m };
+
+    fn from(meant: Meant) -> TypeNs {
+        match meant {
+            Meant::Template(_) => TypeNs::Adt,
+            Meant::Builtin => TypeNs::BuiltinType,
+            Meant::OwnType => TypeNs::SelfType,
+        }
+    }
+}
+
+// What a path names, if its names stand for something, and at which segment.
 #[derive(Clone, Copy)]
 pub struct Resolved {
-    pub meant: Meant,
+    pub meant: Option<Meant>,
     pub resolution: Resolution,
 }
 
-// The number of the template of that name.
+// The number of the first template of that name.
 pub(crate) fn template_of(templates: &[Template], name: &[u8]) -> Option<u32>
     ensures { result ≡ numbered templates.now name.now }
 {
-    for template in templates {
-        if is_same(template.name.as_slice(), name) {
-            return Some(template.number);
-        }
-    }
-    None
+    templates
+        .iter()
+        .find(|template| template.name.as_slice() == name)
+        .map(|template| template.number)
 }
 
-fn is_unsigned(name: &[u8]) -> bool
-    ensures { result ≡ unsigned name.now }
-{
-    is_same(name, b"u8")
-        || is_same(name, b"u16")
-        || is_same(name, b"u32")
-        || is_same(name, b"u64")
-        || is_same(name, b"u128")
-        || is_same(name, b"usize")
-}
-
-fn is_signed(name: &[u8]) -> bool
-    ensures { result ≡ signed name.now }
-{
-    is_same(name, b"i8")
-        || is_same(name, b"i16")
-        || is_same(name, b"i32")
-        || is_same(name, b"i64")
-        || is_same(name, b"i128")
-        || is_same(name, b"isize")
-}
-
-fn is_plain(name: &[u8]) -> bool
-    ensures { result ≡ plain name.now }
-{
-    is_same(name, b"bool")
-        || is_same(name, b"char")
-        || is_same(name, b"str")
-        || is_same(name, b"f32")
-        || is_same(name, b"f64")
-}
+// The names of the built-in types.
+const BUILTIN: [&[u8]; 17] = [
+    b"u8", b"u16", b"u32", b"u64", b"u128", b"usize", b"i8", b"i16", b"i32", b"i64", b"i128",
+    b"isize", b"bool", b"char", b"str", b"f32", b"f64",
+];
 
 // Whether the name is that of a built-in type.
+#[tactic(auto, unfolding(crate::specs::Resolves::builtin))]
 fn is_builtin(name: &[u8]) -> bool
     ensures { result ≡ builtin name.now }
 {
-    is_unsigned(name) || is_signed(name) || is_plain(name)
+    BUILTIN.contains(&name)
 }
 
 // What the name stands for: a template, else a built-in type or `Self`.
-fn meaning(templates: &[Template], name: &[u8]) -> Meant
+fn meaning(templates: &[Template], name: &[u8]) -> Option<Meant>
     ensures { result ≡ meant_by templates.now name.now }
 {
-    match template_of(templates, name) {
-        Some(number) => Meant::Template(number),
-        None => {
-            if is_builtin(name) {
-                Meant::Builtin
-            } else if is_same(name, b"Self") {
-                Meant::OwnType
-            } else {
-                Meant::Unknown
-            }
-        }
-    }
-}
-
-// The kind of path that ends at what a name stands for, if it stands for something.
-fn kind_of(meant: Meant) -> Option<TypeNs>
-    ensures { result ≡ kind_by meant }
-{
-    match meant {
-        Meant::Template(_) => Some(TypeNs::Adt),
-        Meant::Builtin => Some(TypeNs::BuiltinType),
-        Meant::OwnType => Some(TypeNs::SelfType),
-        Meant::Unknown => None,
+    if let Some(number) = template_of(templates, name) {
+        Some(Meant::Template(number))
+    } else if is_builtin(name) {
+        Some(Meant::Builtin)
+    } else if name == b"Self".as_slice() {
+        Some(Meant::OwnType)
+    } else {
+        None
     }
 }
 
@@ -115,22 +84,26 @@ fn kind_of(meant: Meant) -> Option<TypeNs>
 pub(crate) fn resolve(templates: &[Template], line: &[u8], names: &[Span]) -> Resolved
     ensures { result ≡ first_known templates.now line.now names.now 0 }
 {
-    for (i, name) in names.iter().enumerate() {
-        let meant = meaning(templates, name.of(line));
-        if let Some(kind) = kind_of(meant) {
+    names
+        .iter()
+        .enumerate()
+        .find_map(|(i, name)| {
+            let meant = meaning(templates, name.of(line))?;
             let next = i + 1;
-            let remaining = if next < names.len() { Some(next) } else { None };
-            return Resolved {
-                meant,
-                resolution: Resolution { kind, remaining },
-            };
-        }
-    }
-    Resolved {
-        meant: Meant::Unknown,
-        resolution: Resolution {
-            kind: TypeNs::Module,
-            remaining: None,
-        },
-    }
+            let remaining = (next < names.len()).then_some(next);
+            Some(Resolved {
+                meant: Some(meant),
+                resolution: Resolution {
+                    kind: meant.into(),
+                    remaining,
+                },
+            })
+        })
+        .unwrap_or(Resolved {
+            meant: None,
+            resolution: Resolution {
+                kind: TypeNs::Module,
+                remaining: None,
+            },
+        })
 }

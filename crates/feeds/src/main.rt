@@ -9,35 +9,34 @@
 
 mod day;
 mod known;
-mod line_places;
+mod line;
+mod parts;
 mod paths;
 mod templates;
 #[cfg(test)]
 mod tests;
 mod told;
 mod unwritten;
-mod words;
 
 use day::Day;
-use listing::names::is_same;
+use line::Line;
 use std::env::Env;
 use std::io;
 use std::io::{BufRead, BufReader};
 
 fn main(rt: HostRuntime) -> io::Result<()> {
     let heap = rt.alloc();
-    // The word is read by itself and without memory, so that nothing hides it. A longer one is another word.
-    let mut word = [0u8; 16];
-    let unwritten = match rt.arg(1, &mut word) {
-        Ok(len) => len <= word.len() && is_same(&word[0..len], b"unwritten"),
-        Err(_) => false,
-    };
+    // `env::args` copies every argument, and fails on one that is no UTF-8; so the word is read by itself and without
+    // memory. A longer one is another word.
+    let mut word = [0; 16];
+    let unwritten = rt
+        .arg(1, &mut word)
+        .is_ok_and(|len| word.get(..len) == Some(b"unwritten"));
     let mut day = Day::new(heap, unwritten)?;
-    let mut number = 0usize;
-    for line in BufReader::new(heap, rt.stdin())?.split(heap, b'\n') {
-        let line = line?;
-        number = number.saturating_add(1);
-        day.take_line(&rt, number, line.as_slice())?;
+    let lines = BufReader::new(heap, rt.stdin())?.split(heap, b'\n');
+    for (number, line) in (1..).zip(lines) {
+        let text = &line?;
+        day.take_line(&rt, Line { number, text })?;
     }
     Ok(())
 }

@@ -1,57 +1,36 @@
 // The path of a schedule line.
-ghost use Rattle.std.specs.Prelude.{◌≡◌, IfOk, vec_len, OnOk};
-ghost use Rattle.listing.specs.Parts.{part};
-ghost use Rattle.feeds.specs.Segments.{ListRead, Paired};
+ghost use Rattle.std.specs.Prelude.{◌≡◌, IfOk, vec_len};
+ghost use Rattle.spans.specs.Parts.{part};
+ghost use Rattle.feeds.specs.Segments.{ListRead};
 
-use crate::line_places::{
-    Named, behind, inside_list, moved, read_named, trim_at, unreadable, within,
-};
+use crate::parts::{Named, Part};
 use listing::cutting::cut;
 use listing::faults::{ReadError, Reason};
 use listing::lists::read_list;
-use listing::names::first_byte;
-use listing::spans::Span;
 use path::args::GenericArg;
 use path::segments::{GenericArgs, PathSegment};
+use spans::Span;
 use std::alloc::Global;
 
 // A path as it is written: its segments with their names, and the arguments of all its lists with their places.
+// The lists are parallel, since `check_path` takes a slice of segments and `resolve` one of names, and since `read_list`
+// fills one list of arguments and answers their places by themselves.
 #[derive(Drop)]
 pub struct PathText {
+    heap: Global,
     pub names: Vec<Span>,
     pub segments: Vec<PathSegment>,
     pub args: Vec<GenericArg>,
     pub places: Vec<Span>,
-}
 
-// `n` as a number of arguments of the line.
-fn count(n: usize, at: usize) -> Result<u32, ReadError>
-    ensures { IfOk result (λ k. k ≡ n) }
-{
-    if n > 0xffff_ffff {
-        return Err(unreadable(at, Reason::Many));
-    }
-    Ok(n as u32)
-}
-
-// Adds the places in the line of the arguments of the list at `list`.
-fn add_places(
-    line: &[u8],
-    list: Span,
-    spans: &[Span],
-    places: &mut Vec<Span>,
-) -> Result<(), ReadError> {
-    for span in spans {
-        places.push(trim_at(line, within(list, *span)))?;
-    }
-    Ok(())
+    // Each segment has a name.
+    pub ghost paired: { vec_len names ≡ vec_len segments },
 }
 
 impl PathText {
-    fn new(heap: Global) -> PathText
-        ensures { Paired result }
-    {
+    fn new(heap: Global) -> PathText {
         PathText {
+            heap,
             names: Vec::new(heap),
             segments: Vec::new(heap),
             args: Vec::new(heap),
@@ -59,19 +38,16 @@ impl PathText {
         }
     }
 
-    // Reads the list whose inside is at `list`: its arguments are the written ones, in order, behind those that
-    // were read before.
-    fn add_list(&mut self, heap: Global, line: &[u8], list: Span) -> Result<GenericArgs, ReadError>
-        ensures read { IfOk result (λ g. ListRead (part line.now list) self.old.args.items self.new.args.items g) }
+    // Reads the list whose inside is `list`: its arguments are the written ones, in order, behind those that were
+    // read before.
+    fn add_list(&mut self, list: Part) -> Result<GenericArgs, ReadError>
+        ensures read { IfOk result (λ g. ListRead (part list.entry.line.text.now list.entry.place) self.old.args.items self.new.args.items g) }
         ensures kept { (vec_len self.new.names ≡ vec_len self.old.names) × (vec_len self.new.segments ≡ vec_len self.old.segments) }
     {
-        let start = count(self.args.len(), list.from)?;
-        let spans = match read_list(heap, list.of(line), &mut self.args) {
-            Ok(spans) => spans,
-            Err(e) => return Err(moved(e, list.from)),
-        };
-        let len = count(spans.len(), list.from)?;
-        add_places(line, list, spans.as_slice(), &mut self.places)?;
+        let start = list.count(self.args.len())?;
+        let spans = read_list(self.heap, list.text(), &mut self.args).map_err(|e| list.moved(e))?;
+        let len = list.count(spans.len())?;
+        self.places.extend(spans.iter().map(|span| list.inside(*span).trimmed().place))?;
         Ok(GenericArgs {
             start,
             len,
@@ -80,69 +56,56 @@ impl PathText {
     }
 
     // Adds a segment with a name.
-    fn add_segment(&mut self, heap: Global, line: &[u8], place: Span) -> Result<(), ReadError>
-        ensures { Paired self.old → OnOk result (Paired self.new) }
-    {
-        let Named { name, list } = read_named(line, place)?;
+    fn add_segment(&mut self, part: Part) -> Result<(), ReadError> {
+        let Named { name, list } = part.named()?;
         let args = match list {
-            Some(list) => Some(self.add_list(heap, line, list)?),
+            Some(list) => Some(self.add_list(list)?),
             None => None,
         };
-        self.names.push(name)?;
-        self.segments.push(PathSegment { args })?;
+        self.names.reserve(1)?;
+        self.segments.reserve(1)?;
+        self.names.push_reserved(name.place);
+        self.segments.push_reserved(PathSegment { args });
         Ok(())
     }
 
     // A list behind `::` is that of the segment before it.
-    fn add_turbofish(&mut self, heap: Global, line: &[u8], place: Span) -> Result<(), ReadError>
-        ensures { Paired self.old → OnOk result (Paired self.new) }
-    {
-        match self.segments.pop() {
-            Some(PathSegment { args: None }) => {
-                let list = inside_list(line, place)?;
-                let args = self.add_list(heap, line, list)?;
-                self.segments.push(PathSegment { args: Some(args) })?;
-                Ok(())
-            }
-            _ => Err(unreadable(place.from, Reason::Name)),
+    fn add_turbofish(&mut self, part: Part) -> Result<(), ReadError> {
+        let Some(PathSegment { args: None }) = self.segments.last() else {
+            return Err(part.unreadable(Reason::Name));
+        };
+        let args = self.add_list(part.inside_list()?)?;
+        if let Some(segment) = self.segments.last_mut() {
+            segment.args = Some(args);
         }
+        Ok(())
     }
 
     // Adds what stands between two `::`.
-    fn add_piece(&mut self, heap: Global, line: &[u8], piece: Span) -> Result<(), ReadError>
-        ensures { Paired self.old → OnOk result (Paired self.new) }
-    {
-        let place = trim_at(line, piece);
-        if first_byte(place.of(line)) == b'<' {
-            self.add_turbofish(heap, line, place)
+    fn add_piece(&mut self, piece: Part) -> Result<(), ReadError> {
+        let piece = piece.trimmed();
+        if piece.text().starts_with(b"<") {
+            self.add_turbofish(piece)
         } else {
-            self.add_segment(heap, line, place)
+            self.add_segment(piece)
         }
     }
 }
 
-// Reads the path at `place`. It is cut at each colon, so that every other piece stands between two colons and
-// has to be empty.
-pub(crate) fn read_path(heap: Global, line: &[u8], place: Span) -> Result<PathText, ReadError>
-    ensures { IfOk result Paired }
-{
-    let pieces = match cut(heap, place.of(line), b':') {
-        Ok(pieces) => pieces,
-        Err(e) => return Err(moved(e, place.from)),
-    };
+// Reads the path. It is cut at each colon, so that every other piece stands between two colons and has to be empty.
+pub(crate) fn read_path(heap: Global, part: Part) -> Result<PathText, ReadError> {
+    let pieces = cut(heap, part.text(), b':').map_err(|e| part.moved(e))?;
     let mut path = PathText::new(heap);
-    let mut between = false;
-    for piece in pieces {
-        let piece = within(place, piece);
-        if !between {
-            path.add_piece(heap, line, piece)?;
-        } else if piece.len > 0 {
-            return Err(unreadable(piece.from, Reason::Colons));
+    for (i, piece) in pieces.iter().enumerate() {
+        let piece = part.inside(*piece);
+        if i % 2 == 0 {
+            path.add_piece(piece)?;
+        } else if piece.place.len > 0 {
+            return Err(piece.unreadable(Reason::Colons));
         }
-        between = !between;
     }
-    if !between {
-        return Err(unreadable(behind(place, place.len).from, Reason::Colons));
+    if pieces.len() % 2 == 0 {
+        return Err(part.behind(part.place.len).unreadable(Reason::Colons));
     }
     Ok(path)
 }

@@ -1,55 +1,45 @@
 // The rows of a template line.
 use crate::known::{Template, template_of};
-use crate::line_places::{Named, behind, moved, read_named, trim_at, unreadable, within};
+use crate::parts::{Named, Part};
 use definitions::kinds::RowKind;
 use listing::blanks::is_white;
 use listing::faults::{ReadError, Reason};
 use listing::lists::arguments;
-use listing::names::{first_byte, is_same, name_len};
-use listing::spans::Span;
+use listing::names::name_len;
+use spans::Span;
 use std::alloc::Global;
 
 // A default as it is written.
 #[derive(Clone, Copy)]
-pub enum Word {
+pub enum Word<'a> {
     Number(u32),
     Static,
-    Lifetime(Span),
-    Name(Span),
+    Lifetime(Part<'a>),
+    Name(Part<'a>),
 }
 
 // A row as it is written. The name of a lifetime has its apostrophe.
 #[derive(Clone, Copy)]
-pub struct RowText {
+pub struct RowText<'a> {
     pub kind: RowKind,
-    pub name: Span,
-    pub default: Option<Word>,
+    pub name: &'a [u8],
+    pub default: Option<Word<'a>>,
 }
 
 // A template as it is written.
 #[derive(Drop)]
-pub struct TemplateText {
-    pub name: Span,
-    pub rows: Vec<RowText>,
+pub struct TemplateText<'a> {
+    pub name: &'a [u8],
+    pub rows: Vec<RowText<'a>>,
 }
 
-// The value of a number in decimal digits, if it fits.
+// The value of a number in decimal digits, if `text` begins with one and the number fits.
 fn read_number(text: &[u8]) -> Option<u32> {
-    let mut value = 0u32;
-    for b in text {
-        if !b.is_ascii_digit() {
-            return None;
-        }
-        let digit = u32::from(*b).saturating_sub(48);
-        value = value.checked_mul(10)?.checked_add(digit)?;
+    if text.first()?.is_ascii_digit() {
+        std::str::from_utf8(text).ok()?.parse().ok()
+    } else {
+        None
     }
-    Some(value)
-}
-
-// Whether `text` is a lifetime: an apostrophe and a name.
-fn is_lifetime(text: &[u8]) -> bool {
-    let len = text.len();
-    len > 1 && text[0] == b'\'' && name_len(&text[1..]) == len - 1
 }
 
 // Whether all of `text` is a name.
@@ -57,82 +47,59 @@ fn is_name(text: &[u8]) -> bool {
     !text.is_empty() && name_len(text) == text.len()
 }
 
-fn read_default(line: &[u8], place: Span) -> Result<Word, ReadError> {
-    let text = place.of(line);
+// Whether `text` is a lifetime: an apostrophe and a name.
+fn is_lifetime(text: &[u8]) -> bool {
+    text.strip_prefix(b"'").is_some_and(is_name)
+}
+
+fn read_default(part: Part) -> Result<Word, ReadError> {
+    let text = part.text();
     if is_name(text) {
-        return Ok(Word::Name(place));
+        Ok(Word::Name(part))
+    } else if text == b"'static".as_slice() {
+        Ok(Word::Static)
+    } else if is_lifetime(text) {
+        Ok(Word::Lifetime(part))
+    } else if let Some(value) = read_number(text) {
+        Ok(Word::Number(value))
+    } else {
+        Err(part.unreadable(Reason::Default))
     }
-    if is_same(text, b"'static") {
-        return Ok(Word::Static);
-    }
-    if is_lifetime(text) {
-        return Ok(Word::Lifetime(place));
-    }
-    if first_byte(text).is_ascii_digit() {
-        if let Some(value) = read_number(text) {
-            return Ok(Word::Number(value));
-        }
-    }
-    Err(unreadable(place.from, Reason::Default))
 }
 
 // The name of a `const` row.
-fn const_name(line: &[u8], place: Span) -> Option<Span> {
-    let text = place.of(line);
-    if name_len(text) != 5
-        || text.len() < 6
-        || !is_white(text[5])
-        || !is_same(&text[0..5], b"const")
-    {
-        return None;
-    }
-    Some(trim_at(line, behind(place, 5)))
+fn const_name(part: Part) -> Option<Part> {
+    let rest = part.text().strip_prefix(b"const")?;
+    is_white(*rest.first()?).then(|| part.behind(5).trimmed())
 }
 
 // The kind and the name of a row without its default.
-fn read_head(line: &[u8], place: Span) -> Result<(RowKind, Span), ReadError> {
-    let text = place.of(line);
-    if is_lifetime(text) {
-        return Ok((RowKind::Lifetime, place));
+fn read_head(part: Part) -> Result<(RowKind, &[u8]), ReadError> {
+    if is_lifetime(part.text()) {
+        return Ok((RowKind::Lifetime, part.text()));
     }
-    let (kind, name) = match const_name(line, place) {
+    let (kind, name) = match const_name(part) {
         Some(name) => (RowKind::Const, name),
-        None => (RowKind::Type, place),
+        None => (RowKind::Type, part),
     };
-    if is_name(name.of(line)) {
-        Ok((kind, name))
+    if is_name(name.text()) {
+        Ok((kind, name.text()))
     } else {
-        Err(unreadable(name.from, Reason::Row))
+        Err(name.unreadable(Reason::Row))
     }
 }
 
-// How many bytes stand before the first `=`.
-fn equals_at(text: &[u8]) -> usize {
-    for (i, b) in text.iter().enumerate() {
-        if *b == b'=' {
-            return i;
-        }
-    }
-    text.len()
-}
-
-fn read_row(line: &[u8], place: Span) -> Result<RowText, ReadError> {
-    let text = place.of(line);
-    let head = equals_at(text);
-    let (kind, name) = read_head(
-        line,
-        trim_at(
-            line,
-            Span {
-                from: place.from,
-                len: head,
-            },
-        ),
-    )?;
-    let default = if head < text.len() {
-        Some(read_default(line, trim_at(line, behind(place, head.saturating_add(1))))?)
-    } else {
-        None
+// A row is its head, or its head, a `=` and its default.
+fn read_row(part: Part) -> Result<RowText, ReadError> {
+    let equals = part.text().iter().position(|b| *b == b'=');
+    let head = part.inside(Span {
+        from: 0,
+        len: equals.unwrap_or(part.place.len),
+    });
+    let (kind, name) = read_head(head.trimmed())?;
+    let default = match equals {
+        Some(at) => Some(read_default(part.behind(at.saturating_add(1)).trimmed())?),
+        None => None,
     };
     Ok(RowText {
         kind,
@@ -142,54 +109,48 @@ fn read_row(line: &[u8], place: Span) -> Result<RowText, ReadError> {
 }
 
 // The place of the row of that name.
-pub(crate) fn row_of(line: &[u8], rows: &[RowText], name: &[u8]) -> Option<usize> {
-    for (i, row) in rows.iter().enumerate() {
-        if is_same(row.name.of(line), name) {
-            return Some(i);
-        }
-    }
-    None
+pub(crate) fn row_of(rows: &[RowText], name: &[u8]) -> Option<usize> {
+    rows.iter().position(|row| row.name == name)
 }
 
 // A lifetime as default is that of a row.
-fn lifetimes_known(line: &[u8], rows: &[RowText]) -> Result<(), ReadError> {
+fn lifetimes_known(rows: &[RowText]) -> Result<(), ReadError> {
     for row in rows {
-        if let Some(Word::Lifetime(place)) = row.default {
-            if row_of(line, rows, place.of(line)).is_none() {
-                return Err(unreadable(place.from, Reason::Default));
+        if let Some(Word::Lifetime(part)) = row.default {
+            if row_of(rows, part.text()).is_none() {
+                return Err(part.unreadable(Reason::Default));
             }
         }
     }
     Ok(())
 }
 
-fn read_rows(heap: Global, line: &[u8], list: Span) -> Result<Vec<RowText>, ReadError> {
-    let spans = match arguments(heap, list.of(line)) {
-        Ok(spans) => spans,
-        Err(e) => return Err(moved(e, list.from)),
-    };
+fn read_rows(heap: Global, list: Part) -> Result<Vec<RowText>, ReadError> {
+    let spans = arguments(heap, list.text()).map_err(|e| list.moved(e))?;
     let mut rows = Vec::new(heap);
     for span in spans {
-        rows.push(read_row(line, within(list, span))?)?;
+        rows.push(read_row(list.inside(span))?)?;
     }
-    lifetimes_known(line, rows.as_slice())?;
+    lifetimes_known(&rows)?;
     Ok(rows)
 }
 
-// Reads the template at `place`, whose name is not yet taken.
-pub(crate) fn read_template(
+// Reads the template, whose name is not yet taken.
+pub(crate) fn read_template<'a>(
     heap: Global,
-    line: &[u8],
-    place: Span,
+    part: Part<'a>,
     templates: &[Template],
-) -> Result<TemplateText, ReadError> {
-    let Named { name, list } = read_named(line, place)?;
-    if template_of(templates, name.of(line)).is_some() {
-        return Err(unreadable(name.from, Reason::Twice));
+) -> Result<TemplateText<'a>, ReadError> {
+    let Named { name, list } = part.named()?;
+    if template_of(templates, name.text()).is_some() {
+        return Err(name.unreadable(Reason::Twice));
     }
     let rows = match list {
-        Some(list) => read_rows(heap, line, list)?,
+        Some(list) => read_rows(heap, list)?,
         None => Vec::new(heap),
     };
-    Ok(TemplateText { name, rows })
+    Ok(TemplateText {
+        name: name.text(),
+        rows,
+    })
 }

@@ -1,15 +1,14 @@
 use crate::known::{Meant, Template, resolve, template_of};
-use listing::spans::Span;
 use path::segments::TypeNs;
+use spans::Span;
 use std::alloc::{AllocError, Global};
 use std::test::Fail;
 
 // Two templates of one name, and another.
 fn templates(heap: Global) -> Result<Vec<Template>, AllocError> {
     let mut all = Vec::new(heap);
-    for (i, name) in ["Feed", "Ring", "Feed"].iter().enumerate() {
+    for (number, name) in (5..).zip(["Feed", "Ring", "Feed"]) {
         let name = Vec::from_slice(heap, name.as_bytes())?;
-        let number = if i < 3 { 5 + i as u32 } else { 0 };
         all.push(Template { name, number })?;
     }
     Ok(all)
@@ -27,10 +26,10 @@ fn first_of_a_name(rt: HostRuntime) -> Result<(), Fail> {
 }
 
 // The number of the template that a path names, if it names one.
-fn number_of(meant: Meant) -> Option<u32> {
+fn number_of(meant: Option<Meant>) -> Option<u32> {
     match meant {
-        Meant::Template(number) => Some(number),
-        Meant::Builtin | Meant::OwnType | Meant::Unknown => None,
+        Some(Meant::Template(number)) => Some(number),
+        Some(Meant::Builtin | Meant::OwnType) | None => None,
     }
 }
 

@@ -4,10 +4,11 @@ ghost use Rattle.definitions.specs.Definitions.{definition_at, whole_rows};
 ghost use Rattle.generics.specs.Held.{held};
 
 use crate::known::Template;
+use crate::line::shown;
 use crate::templates::RowText;
-use crate::told::shown;
 use definitions::kinds::Mark;
 use generics::catalogue::Catalogue;
+use indexmap::IndexSet;
 use lowerer::makings::GenericArgsLowerer;
 use lowerer::meaning::ParamPlace;
 use lowerers::terms::{LowererCtx, TermArg};
@@ -35,42 +36,38 @@ fn entries_of<L: GenericArgsLowerer>(
     Ok(entries)
 }
 
-// A declared template: its line, its rows, and the names that its defaults use.
+// A declared template: its definition in the catalogue, the number of its line, its rows, and the names that its
+// defaults use.
 #[derive(Drop)]
 pub struct Unwritten<'a> {
+    pub cat: &'a Catalogue,
+    pub def: u32,
     pub number: usize,
-    pub line: &'a [u8],
-    pub rows: &'a [RowText],
+    pub rows: &'a [RowText<'a>],
     pub templates: &'a [Template],
-    pub bases: &'a [Vec<u8>],
+    pub bases: &'a IndexSet<Vec<u8>>,
 }
 
 impl<'a> Unwritten<'a> {
     fn row_name(&self, place: usize) -> &'a str {
-        match self.rows.get(place) {
-            Some(row) => shown(row.name.of(self.line)),
-            None => "?",
-        }
+        self.rows.get(place).map_or("?", |row| shown(row.name))
     }
 
     fn template_name(&self, def: u32) -> &'a str {
-        for template in self.templates {
-            if template.number == def {
-                return shown(template.name.as_slice());
-            }
-        }
-        "?"
+        self.templates
+            .iter()
+            .find(|template| template.number == def)
+            .map_or("?", |template| shown(&template.name))
     }
 
     fn base_name(&self, base: u32) -> &'a str {
-        match self.bases.get(base as usize) {
-            Some(name) => shown(name.as_slice()),
-            None => "?",
-        }
+        self.bases
+            .get_index(base as usize)
+            .map_or("?", |name| shown(name))
     }
 
     // A mark, by the name that it was written with.
-    fn tell_mark(&self, rt: &HostRuntime, mark: Mark) -> io::Result<()> {
+    fn tell_mark(&self, rt: &impl Print, mark: Mark) -> io::Result<()> {
         match mark {
             Mark::Ref(place) => {
                 let name = self.row_name(place as usize);
@@ -93,7 +90,7 @@ impl<'a> Unwritten<'a> {
     // The pieces of a default; an entry among them is that of the row to which the default's mark refers.
     fn tell_default(
         &self,
-        rt: &HostRuntime,
+        rt: &impl Print,
         place: usize,
         marks: &[Mark],
         pieces: &[Piece<TermArg>],
@@ -113,12 +110,7 @@ impl<'a> Unwritten<'a> {
         println!(rt; "")
     }
 
-    fn tell_unknown(
-        &self,
-        rt: &HostRuntime,
-        place: usize,
-        variable: Option<u32>,
-    ) -> io::Result<()> {
+    fn tell_unknown(&self, rt: &impl Print, place: usize, variable: Option<u32>) -> io::Result<()> {
         let number = self.number;
         let name = self.row_name(place);
         match variable {
@@ -130,25 +122,20 @@ impl<'a> Unwritten<'a> {
     }
 
     // A line for each row, under a heading.
-    pub(crate) fn tell(
-        &self,
-        rt: &HostRuntime,
-        heap: Global,
-        cat: &Catalogue,
-        def: u32,
-    ) -> io::Result<()> {
+    pub(crate) fn tell(&self, rt: &impl Print, heap: Global) -> io::Result<()> {
         let number = self.number;
+        let rows = Generics::of(self.cat, self.def);
         if self.rows.is_empty() {
             return Ok(());
         }
         let mut numbers = VariableLowerer::new();
         let mut store = [Piece::Mark(Mark::Region(0)); 2048];
         let mut terms = LowererCtx::new(&mut store);
-        let unknown = entries_of(heap, cat, def, &mut numbers)?;
-        let spelled = entries_of(heap, cat, def, &mut terms)?;
+        let unknown = entries_of(heap, self.cat, self.def, &mut numbers)?;
+        let spelled = entries_of(heap, self.cat, self.def, &mut terms)?;
         println!(rt; "{number}: if nothing is written:")?;
         for (place, (entry, term)) in unknown.iter().zip(spelled.iter()).enumerate() {
-            match (Generics::of(cat, def).default_at(place), terms.pieces(term)) {
+            match (rows.default_at(place), terms.pieces(term)) {
                 (Some(marks), Some(pieces)) => self.tell_default(rt, place, marks, pieces)?,
                 _ => self.tell_unknown(rt, place, entry.variable())?,
             }

@@ -1,22 +1,16 @@
-use Rattle.std.proofs.Common.{◌+◌, sym, ap, ◌∙◌}
-use Rattle.feeds.specs.Resolves.{meant_by}
-use Rattle.feeds.proofs.Resolving.{known_here, known_later, known_nowhere, left_some, left_none}
+use Rattle.std.proofs.Common.{length, rules, tests, ap, ◌∙◌, arith}
+use Rattle.std.specs.Option.{unwrap_or}
+use Rattle.std.proofs.lemmas.Iterator.{YieldsList-from_slice}
+use Rattle.std.proofs.lemmas.Iterator.Consumers.{YieldsList-from_enumerate}
+use Rattle.feeds.specs.Resolves.{a_module}
+use Rattle.feeds.proofs.Resolving.{known_at, known_from}
+use Rattle.feeds.proofs.Searched.{first_some_from_find_map}
 use Rattle.feeds.proofs.known.resolve.Goals as goal
 
-pub returns-then-next-names : goal.returns-then-next-names
-returns-then-next-names c =
-    known_here c.args.templates.now c.args.line.now c.args.names.now c.loop-i.i c.loop-i.invariant c.loop-i-test.true
-    _ (c.meaning-meant.ensures ∙ ap (meant_by c.args.templates.now) c.of.ensures) _ _ (sym c.in-Some.ensures) (left_some c.args.names.now (c.loop-i.i + 1) c.if-next-names.true)
-
-pub returns-else-next-names : goal.returns-else-next-names
-returns-else-next-names c =
-    known_here c.args.templates.now c.args.line.now c.args.names.now c.loop-i.i c.loop-i.invariant c.loop-i-test.true
-    _ (c.meaning-meant.ensures ∙ ap (meant_by c.args.templates.now) c.of.ensures) _ _ (sym c.in-Some.ensures) (left_none c.args.names.now (c.loop-i.i + 1) c.if-next-names.false)
-
-pub loop-i-preserved : goal.loop-i-preserved
-loop-i-preserved c =
-    known_later c.args.templates.now c.args.line.now c.args.names.now c.loop-i.i c.loop-i.invariant c.loop-i-test.true
-    _ (c.meaning-meant.ensures ∙ ap (meant_by c.args.templates.now) c.of.ensures) (sym c.in_default.ensures)
-
 pub returns : goal.returns
-returns c = known_nowhere c.args.templates.now c.args.line.now c.args.names.now c.loop-i.i c.loop-i.invariant c.loop-i-test.false
+returns c =
+    let ts = c.args.templates.now in
+    let line = c.args.line.now in
+    let names = c.args.names.now in
+    let found = first_some_from_find_map (known_at ts line (length names)) _ c.find_map.result c.find_map.ensures.runs (YieldsList-from_enumerate (YieldsList-from_slice names (cc)) (cc)) (λ x b q k. search (rules, tests)) in
+    c.unwrap_or.ensures ∙ ap (λ o. unwrap_or o a_module) found ∙ known_from ts line names 0 (length names) (omega arith)
