@@ -48,33 +48,12 @@ pub(crate) fn rows_of(
     heap: Global,
     letters: &[u8],
 ) -> Result<Vec<GenericParam<'static>>, AllocError> {
-    let mut rows = Vec::new(heap);
-    for letter in letters {
-        rows.push(row_of(*letter))?;
-    }
-    Ok(rows)
+    letters.iter().map(|letter| row_of(*letter)).collect(heap)
 }
 
 // What declaring answers: the number of the definition, or of the refusal.
 pub(crate) fn answered(cat: &mut Catalogue, d: Declaration) -> Result<u32, u32> {
-    match cat.declare(d) {
-        Ok(number) => Ok(number),
-        Err(refusal) => Err(refusal.number()),
-    }
-}
-
-// A declaration without a body.
-fn plain<'a, 'b>(
-    kind: GenericDefKind,
-    parent: Option<u32>,
-    rows: &'a [GenericParam<'b>],
-) -> Declaration<'a, 'b, 'static> {
-    Declaration {
-        kind,
-        parent,
-        rows,
-        body: None,
-    }
+    cat.declare(d).map_err(u32::from)
 }
 
 // What declaring without a body answers.
@@ -84,7 +63,7 @@ pub(crate) fn tried(
     parent: Option<u32>,
     rows: &[GenericParam],
 ) -> Result<u32, u32> {
-    answered(cat, plain(kind, parent, rows))
+    answered(cat, Declaration::bare(kind, parent, rows))
 }
 
 // What declaring with a body answers.

@@ -21,8 +21,8 @@ pub(crate) const FUNCTION: u32 = 3;
 
 pub(crate) const DEFAULTED: u32 = 4;
 
-// Behind them: type `T T=` with the default `head 0, ref 0`, type `T= T=` whose second default is that one, trait `S T=`
-// with that default, function `L` in it, and type `T=` with a default of 32 marks.
+// Behind them: type `T T=` with the default `head 0, ref 0`, type `T= T=` whose second default is that one, trait
+// `S T=` with that default, function `L` in it, and type `T=` with a default of 32 marks.
 pub(crate) const REFERRING: u32 = 5;
 
 pub(crate) const NESTED: u32 = 6;
@@ -120,8 +120,8 @@ fn row(kind: RowKind, default: Option<&'static [Mark]>) -> GenericParam<'static>
     GenericParam { kind, default }
 }
 
-// The row that a letter stands for: S L T C I, and for rows with defaults t `base 7`, c `value 30`, r `head 0, ref 0`, w
-// `head 1` and its 31 slots.
+// The row that a letter stands for: S L T C I, and for rows with defaults t `base 7`, c `value 30`, r `head 0, ref 0`,
+// w `head 1` and its 31 slots.
 fn row_of(letter: u8) -> GenericParam<'static> {
     match letter {
         b'S' => row(RowKind::TraitSelf, None),
@@ -136,26 +136,6 @@ fn row_of(letter: u8) -> GenericParam<'static> {
     }
 }
 
-fn answered(cat: &mut Catalogue, d: Declaration) -> Result<u32, u32> {
-    match cat.declare(d) {
-        Ok(number) => Ok(number),
-        Err(refusal) => Err(refusal.number()),
-    }
-}
-
-fn plain<'a, 'b>(
-    kind: GenericDefKind,
-    parent: Option<u32>,
-    rows: &'a [GenericParam<'b>],
-) -> Declaration<'a, 'b, 'static> {
-    Declaration {
-        kind,
-        parent,
-        rows,
-        body: None,
-    }
-}
-
 // What declaring rows by their letters answers: the number of the definition, or of the refusal.
 pub(crate) fn declared(
     heap: Global,
@@ -164,11 +144,9 @@ pub(crate) fn declared(
     parent: Option<u32>,
     letters: &[u8],
 ) -> Result<Result<u32, u32>, AllocError> {
-    let mut rows = Vec::new(heap);
-    for letter in letters {
-        rows.push(row_of(*letter))?;
-    }
-    Ok(answered(cat, plain(kind, parent, &rows)))
+    let rows: Vec<GenericParam> = letters.iter().map(|letter| row_of(*letter)).collect(heap)?;
+    let d = Declaration::bare(kind, parent, &rows);
+    Ok(cat.declare(d).map_err(u32::from))
 }
 
 fn declare_all(

@@ -15,17 +15,11 @@ use std::test::Fail;
 
 // How many pieces an entry has, if it has any.
 fn count(lowerer: &LowererCtx, entry: &TermArg) -> Option<usize> {
-    match lowerer.pieces(entry) {
-        Some(pieces) => Some(pieces.len()),
-        None => None,
-    }
+    lowerer.pieces(entry).map(|pieces| pieces.len())
 }
 
 fn piece_at(lowerer: &LowererCtx, entry: &TermArg, i: usize) -> Option<Piece<TermArg>> {
-    match lowerer.pieces(entry)?.get(i) {
-        Some(piece) => Some(*piece),
-        None => None,
-    }
+    lowerer.pieces(entry)?.get(i).copied()
 }
 
 pub(crate) fn counts(
