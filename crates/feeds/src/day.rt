@@ -94,7 +94,8 @@ impl Day {
         Ok(Mark::Base(self.base_of(name)?))
     }
 
-    // The mark of each row's default; a row without one has a mark that is not used.
+    // The mark of each row's default; a row without one has a mark that is not used. A list beside the rows, since a
+    // declared row borrows its marks.
     fn marks_of(&mut self, rows: &[RowText]) -> Result<Vec<Mark>, AllocError> {
         let mut marks = Vec::new(self.heap);
         for row in rows {
