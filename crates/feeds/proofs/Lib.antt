@@ -1,2 +1,3 @@
-pub mod Searched
 pub mod Resolving
+pub mod Searched
+pub mod Unwriting

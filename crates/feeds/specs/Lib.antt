@@ -1,2 +1,3 @@
 pub mod Resolves
 pub mod Segments
+pub mod Unwritten

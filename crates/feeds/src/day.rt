@@ -32,8 +32,7 @@ fn headed(text: &[u8]) -> Option<Section> {
 }
 
 // What is known of the day so far. A base type is numbered by its place in `bases`. `templates` is a list, since the
-// first of two templates of one name is meant, and they are read by number too. `unwritten` is a wish of the caller's:
-// whether each template's rows are told as they would be if nothing were written.
+// first of two templates of one name is meant, and they are read by number too.
 #[derive(Drop)]
 pub struct Day {
     heap: Global,
@@ -41,7 +40,6 @@ pub struct Day {
     catalogue: Catalogue,
     templates: Vec<Template>,
     bases: IndexSet<Vec<u8>>,
-    unwritten: bool,
 }
 
 // `n`, or the greatest number there is. A row or a name of so high a number is refused by the catalogue or has
@@ -66,14 +64,13 @@ fn params_of<'a>(
 }
 
 impl Day {
-    pub(crate) fn new(heap: Global, unwritten: bool) -> Result<Day, AllocError> {
+    pub(crate) fn new(heap: Global) -> Result<Day, AllocError> {
         Ok(Day {
             heap,
             section: None,
             catalogue: Catalogue::new(heap)?,
             templates: Vec::new(heap),
             bases: IndexSet::new(heap),
-            unwritten,
         })
     }
 
@@ -129,9 +126,6 @@ impl Day {
                     number: def,
                 })?;
                 line.tell_declared(rt, name, def, template.rows.len())?;
-                if !self.unwritten {
-                    return Ok(());
-                }
                 let unwritten = Unwritten {
                     cat: &self.catalogue,
                     def,

@@ -3,8 +3,7 @@
 //
 // Blank lines and lines that begin with `#` are skipped. `[templates]` and `[schedule]` begin a section; a line
 // before either cannot be read. A line that cannot be read is told with its number and column, and nothing of it
-// is carried out. Called with the word `unwritten`, the program also says of each template what its rows would be if
-// nothing were written.
+// is carried out. Of each declared template the program also says what its rows would be if nothing were written.
 #![tactic(auto)]
 
 mod day;
@@ -20,19 +19,12 @@ mod unwritten;
 
 use day::Day;
 use line::Line;
-use std::env::Env;
 use std::io;
 use std::io::{BufRead, BufReader};
 
 fn main(rt: HostRuntime) -> io::Result<()> {
     let heap = rt.alloc();
-    // `env::args` copies every argument, and fails on one that is no UTF-8; so the word is read by itself and without
-    // memory. A longer one is another word.
-    let mut word = [0; 16];
-    let unwritten = rt
-        .arg(1, &mut word)
-        .is_ok_and(|len| word.get(..len) == Some(b"unwritten"));
-    let mut day = Day::new(heap, unwritten)?;
+    let mut day = Day::new(heap)?;
     let lines = BufReader::new(heap, rt.stdin())?.split(heap, b'\n');
     for (number, line) in (1..).zip(lines) {
         let text = &line?;

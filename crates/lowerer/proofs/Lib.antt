@@ -1,2 +1,3 @@
 pub mod Defaulting
 pub mod Filled
+pub mod Unwritten

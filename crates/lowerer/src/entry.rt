@@ -11,3 +11,12 @@ pub trait Entry {
     fn meaning(&self) -> Meaning
         ensures { result ≡ means self.now };
 }
+
+// A meaning alone, as the entry of a lowerer that keeps nothing else.
+impl Entry for Meaning {
+    ghost means = { λ m. m };
+
+    fn meaning(&self) -> Meaning {
+        *self
+    }
+}

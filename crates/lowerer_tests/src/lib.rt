@@ -1,4 +1,4 @@
-// Tests of the two lowerers, in a crate of their own, so that the lowerers are proved once.
+// Tests of the two lowerers and of the trait that they keep, in a crate of their own, so that the lowerers are proved once.
 #![tactic(auto)]
 
 #[cfg(test)]
@@ -7,6 +7,8 @@ mod kept;
 mod makings;
 #[cfg(test)]
 mod numbers;
+#[cfg(test)]
+mod plain;
 #[cfg(test)]
 mod reports;
 #[cfg(test)]

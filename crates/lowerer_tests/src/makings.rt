@@ -1,7 +1,11 @@
 // What each making means, at each row and for each argument.
+use crate::plain::Plain;
 use crate::words::*;
 use definitions::kinds::{Kind, Mark};
+use diagnostics::lent::LentReports;
 use diagnostics::list::ReportList;
+use diagnostics::own::OwnReports;
+use diagnostics::reports::{GenericArgsProhibitedReason, PathLoweringDiagnostic};
 use generics::catalogue::Catalogue;
 use lowerer::entry::Entry;
 use lowerer::makings::GenericArgsLowerer;
@@ -9,19 +13,11 @@ use lowerer::meaning::{Meaning, ParamPlace, Source};
 use lowerers::lowering::Stocked;
 use lowerers::terms::LowererCtx;
 use lowerers::variables::VariableLowerer;
-use path::args::{Form, GenericArg};
+use path::args::GenericArg;
 use pieces::Piece;
 use std::alloc::Global;
 use std::process::Abort;
 use std::test::Fail;
-
-const FORMS: [Form; 5] = [
-    Form::Lifetime,
-    Form::Type,
-    Form::Path,
-    Form::Placeholder,
-    Form::Constant,
-];
 
 // A place of the function, its kind, and which of the forms agrees with it.
 const AGREES: [(usize, Kind, [bool; 5]); 5] = [
@@ -207,5 +203,50 @@ fn with_variables(rt: HostRuntime) -> Result<(), Fail> {
     has_stock(&rt, &variables, 224);
     spend(&mut variables, &cat, 224);
     without_stock(&rt, &mut variables, &cat);
+    Ok(())
+}
+
+// With inference off and on at each of the twelve places, and parent at each.
+const SPENDING: usize = 36;
+
+// Everything that is asked of a lowerer of another make.
+fn kept_by<R: ReportList>(
+    rt: &impl Abort,
+    heap: Global,
+    cat: &Catalogue,
+    reports: R,
+    spends: bool,
+) -> Result<(), Fail>
+where
+    R: Drop,
+{
+    let mut plain = Plain {
+        reports,
+        stock: SPENDING,
+        spends,
+    };
+    handed_over(rt, &mut plain, cat);
+    parents_as(rt, &mut plain, cat, Source::Parent);
+    inferred_as(rt, heap, &mut plain, cat)?;
+    has_stock(rt, &plain, if spends { 0 } else { SPENDING });
+    plain.stock = 0;
+    without_stock(rt, &mut plain, cat);
+    Ok(())
+}
+
+// The trait shuts out no lowerer that keeps its meaning: one that keeps nothing of its entries, over either report list,
+// whose stock is lowered each time or never.
+#[test]
+fn with_others(rt: HostRuntime) -> Result<(), Fail> {
+    let cat = stocked(&rt, rt.alloc())?;
+    let unused = PathLoweringDiagnostic::GenericArgsProhibited {
+        segment: 0,
+        reason: GenericArgsProhibitedReason::Module,
+    };
+    for spends in [false, true] {
+        kept_by(&rt, rt.alloc(), &cat, OwnReports::new(), spends)?;
+        let mut places = [unused; 2];
+        kept_by(&rt, rt.alloc(), &cat, LentReports::new(&mut places), spends)?;
+    }
     Ok(())
 }

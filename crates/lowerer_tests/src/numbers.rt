@@ -134,3 +134,27 @@ fn all_taken(rt: HostRuntime) -> Result<(), Fail> {
     is_named(&rt, before, DEFAULTED, 0);
     Ok(())
 }
+
+// With one variable left a default is still a default and takes none; an unknown then takes the last.
+fn at_last(rt: &impl Abort, lowerer: &mut VariableLowerer, cat: &Catalogue) {
+    for _ in 0..255u32 {
+        let _ = lowerer.parent_arg(cat, at(PLAIN, 0));
+    }
+    has_stock(rt, lowerer, 1);
+    let default = lowerer.inferred_kind(cat, at(DEFAULTED, 0), false, &[]);
+    is_meant(rt, default.meaning(), Kind::Type, Source::Default);
+    is_named(rt, default, DEFAULTED, 0);
+    has_stock(rt, lowerer, 1);
+    let unknown = lowerer.inferred_kind(cat, at(NEXT, 0), false, &[]);
+    is_meant(rt, unknown.meaning(), Kind::Type, Source::Unknown);
+    is_numbered(rt, unknown, Some(255));
+    has_stock(rt, lowerer, 0);
+    after_all(rt, lowerer, cat);
+}
+
+#[test]
+fn last_variable(rt: HostRuntime) -> Result<(), Fail> {
+    let cat = stocked(&rt, rt.alloc())?;
+    at_last(&rt, &mut VariableLowerer::new(), &cat);
+    Ok(())
+}

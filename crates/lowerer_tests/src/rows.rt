@@ -8,7 +8,7 @@ use lowerer::makings::GenericArgsLowerer;
 use lowerer::meaning::{Meaning, ParamPlace, Source};
 use lowerers::terms::LowererCtx;
 use lowerers::variables::VariableLowerer;
-use path::args::{Form, GenericArg};
+use path::args::GenericArg;
 use pieces::Piece;
 use std::alloc::Global;
 use std::process::Abort;
@@ -36,7 +36,7 @@ fn stranger_as<L: GenericArgsLowerer>(
 where
     L::Arg: Entry,
 {
-    for form in [Form::Lifetime, Form::Type, Form::Constant] {
+    for form in FORMS {
         let provided = lowerer.provided_kind(cat, row, GenericArg { form, handle: 1 });
         made_as(rt, lowerer, provided, Kind::Type, Source::Unknown);
     }

@@ -6,6 +6,7 @@ use lowerer::entry::Entry;
 use lowerer::makings::GenericArgsLowerer;
 use lowerer::meaning::{Meaning, ParamPlace, Source};
 use lowerers::terms::TermArg;
+use path::args::Form;
 use pieces::Piece;
 use std::alloc::{AllocError, Global};
 use std::process::Abort;
@@ -35,6 +36,14 @@ pub(crate) const LONG: u32 = 9;
 
 // None of them.
 pub(crate) const NEXT: u32 = 10;
+
+pub(crate) const FORMS: [Form; 5] = [
+    Form::Lifetime,
+    Form::Type,
+    Form::Path,
+    Form::Placeholder,
+    Form::Constant,
+];
 
 type Letters = (GenericDefKind, Option<u32>, &'static [u8]);
 

@@ -1,0 +1,23 @@
+use Rattle.std.proofs.Common.{◌<◌, false, length, map, ap, ◌∙◌, arith, rules, vec_items}
+use Rattle.definitions.specs.Definitions.{definition_at, whole_rows}
+use Rattle.generics.specs.Held.{held}
+use Rattle.lowerer.specs.declared.meaning.ParamPlace.{ParamPlace}
+use Rattle.lowerer.specs.Meanings.{inferred_as, kinds_by}
+use Rattle.feeds.proofs.Unwriting.{one_more}
+use Rattle.feeds.proofs.unwritten.entries_of.Goals as goal
+
+pub loop-place-preserved : goal.loop-place-preserved
+loop-place-preserved g c =
+    let ds = held c.args.cat.now in
+    let rows = whole_rows ds (definition_at ds c.args.def) in
+    let more : c.loop-place.place < length rows = search rules in
+    let spent = c.inferred_kind-entry.ensures.state.stock in
+    let row : ParamPlace = record { def = c.args.def; place = c.loop-place.place } in
+    let m = g.L.GenericArgsLowerer.meaning in
+    let stock = (g.L.ReportList.view c.loop-place.lowerer).stock in
+    record {
+      many = search rules;
+      within = omega arith;
+      stocked = grind (arith, spent, c.loop-place.invariant.stocked);
+      unwritten = λ enough. ap (map m) c.in_ok-push.ensures.items ∙ one_more m ds row (vec_items c.loop-place.entries) c.inferred_kind-entry.result stock more (omega (arith, enough, more, c.loop-place.invariant.stocked)) (c.loop-place.invariant.unwritten enough) (c.inferred_kind-entry.ensures.entry ∙ ap (λ xs. inferred_as ds row false (kinds_by m xs) stock) c.as_slice.ensures.value);
+    }
