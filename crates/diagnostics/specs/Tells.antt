@@ -2,7 +2,8 @@
 use Rattle.std.specs.Prelude.{◌≡◌, ℕ, ◌+◌, ◌<◌, List, [], ◌∷◌, ◌++◌, length}
 use Rattle.diagnostics.specs.declared.reports.PathLoweringDiagnostic.{PathLoweringDiagnostic}
 
--- the reports told, in order, how many more can be told, and how many entries can still be made
+-- the reports told, in order, how many more can be told, and for how many defaults and parents entries can still be made
+-- at least
 pub record View : Type 0 where
   pub told : List PathLoweringDiagnostic
   pub room : ℕ

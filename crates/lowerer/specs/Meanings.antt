@@ -74,8 +74,8 @@ kinds_before ds r = kinds_of (take r.place (whole_rows ds (definition_at ds r.de
 abbrev pub fills : List Definition → ParamPlace → List Kind → Bool
 fills ds r before = same_kinds before (kinds_before ds r)
 
--- the marks of the default that an inferred entry stands for, if it stands for one; no default is put in under
--- inference or where the places it may refer to are not filled
+-- the marks of the default that an inferred entry stands for, if it stands for one and stock is left; no default is put
+-- in under inference or where the places it may refer to are not filled
 abbrev pub default_for : List Definition → ParamPlace → Bool → List Kind → Option (List Mark)
 default_for ds r infer before = cond (not infer && fills ds r before) (default_of (param_at ds r.def r.place)) None
 

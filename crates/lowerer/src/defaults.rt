@@ -27,8 +27,8 @@ pub fn fill_before<E: Entry>(cat: &Catalogue, row: ParamPlace, preceding: &[E]) 
     preceding.len() == row.place.min(generics.len()) && are_alike(generics, preceding)
 }
 
-// The marks of the default that an inferred entry stands for, if it stands for one: inference is off, the row has a
-// default, and the entries fill the places before it.
+// The marks of the default that an inferred entry stands for where stock is left, if it stands for one: inference is
+// off, the row has a default, and the entries fill the places before it.
 #[tactic(auto, using(crate::proofs::Defaulting::default_exactly))]
 pub fn default_for<'a, E: Entry>(
     cat: &'a Catalogue,

@@ -11,7 +11,7 @@ use places::view::Generics;
 
 // Where an entry comes from: a written argument with its handle, the Self type that was handed over with its handle,
 // the row's default, nowhere, the parent's own parameter, or elision with the region that it puts in. Nowhere is a
-// source like the others: an entry is made for it, and told.
+// source like the others: an entry is made for it and shows it.
 #[derive(Clone, Copy, PartialEq, Eq, Debug)]
 pub enum Source {
     Supplied(u32),

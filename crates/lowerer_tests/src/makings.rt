@@ -1,5 +1,6 @@
 // What each making means, at each row and for each argument.
 use crate::plain::Plain;
+use crate::rows::stranger_as;
 use crate::words::*;
 use definitions::kinds::{Kind, Mark};
 use diagnostics::lent::LentReports;
@@ -162,16 +163,30 @@ where
     has_stock(rt, lowerer, stock);
 }
 
-// At stock 0 inferred and parent are unknown of the row's kind, and the rest is as ever.
-fn without_stock<L: GenericArgsLowerer>(rt: &impl Abort, lowerer: &mut L, cat: &Catalogue)
+// At stock 0 inferred and parent are unknown of the row's kind, at rows with a default and at rows that are none of the
+// catalogue's too, and the rest is as ever.
+fn without_stock<L: GenericArgsLowerer>(
+    rt: &impl Abort,
+    heap: Global,
+    lowerer: &mut L,
+    cat: &Catalogue,
+) -> Result<(), Fail>
 where
     L::Arg: Entry,
 {
     parents_as(rt, lowerer, cat, Source::Unknown);
     handed_over(rt, lowerer, cat);
-    let entry = lowerer.inferred_kind(cat, at(DEFAULTED, 0), false, &[]);
-    made_as(rt, lowerer, entry, Kind::Type, Source::Unknown);
+    for (place, before, kind, _) in &PLACES {
+        let preceding = filled(heap, lowerer, before)?;
+        let off = Meaning {
+            kind: *kind,
+            source: Source::Unknown,
+        };
+        inferred_at(rt, lowerer, cat, at(FUNCTION, *place), &preceding, off);
+    }
+    stranger_as(rt, lowerer, cat, at(NEXT, 0), &[]);
     has_stock(rt, lowerer, 0);
+    Ok(())
 }
 
 // Takes variables.
@@ -189,8 +204,7 @@ fn with_terms(rt: HostRuntime) -> Result<(), Fail> {
     handed_over(&rt, &mut terms, &cat);
     parents_as(&rt, &mut terms, &cat, Source::Parent);
     inferred_as(&rt, rt.alloc(), &mut terms, &cat)?;
-    without_stock(&rt, &mut terms, &cat);
-    Ok(())
+    without_stock(&rt, rt.alloc(), &mut terms, &cat)
 }
 
 #[test]
@@ -202,8 +216,7 @@ fn with_variables(rt: HostRuntime) -> Result<(), Fail> {
     inferred_as(&rt, rt.alloc(), &mut variables, &cat)?;
     has_stock(&rt, &variables, 224);
     spend(&mut variables, &cat, 224);
-    without_stock(&rt, &mut variables, &cat);
-    Ok(())
+    without_stock(&rt, rt.alloc(), &mut variables, &cat)
 }
 
 // With inference off and on at each of the twelve places, and parent at each.
@@ -230,12 +243,11 @@ where
     inferred_as(rt, heap, &mut plain, cat)?;
     has_stock(rt, &plain, if spends { 0 } else { SPENDING });
     plain.stock = 0;
-    without_stock(rt, &mut plain, cat);
-    Ok(())
+    without_stock(rt, heap, &mut plain, cat)
 }
 
-// The trait shuts out no lowerer that keeps its meaning: one that keeps nothing of its entries, over either report list,
-// whose stock is lowered each time or never.
+// A lowerer of another make does the same: one that keeps nothing of its entries, over either report list, whose stock is
+// lowered each time or never.
 #[test]
 fn with_others(rt: HostRuntime) -> Result<(), Fail> {
     let cat = stocked(&rt, rt.alloc())?;

@@ -26,7 +26,7 @@ const STRANGERS: [(u32, usize); 8] = [
     (u32::MAX, usize::MAX),
 ];
 
-fn stranger_as<L: GenericArgsLowerer>(
+pub(crate) fn stranger_as<L: GenericArgsLowerer>(
     rt: &impl Abort,
     lowerer: &mut L,
     cat: &Catalogue,
@@ -70,7 +70,9 @@ where
 fn strangers(rt: HostRuntime) -> Result<(), Fail> {
     let cat = stocked(&rt, rt.alloc())?;
     let mut store = [Piece::Mark(Mark::Base(0)); 32];
-    strangers_as(&rt, rt.alloc(), &mut LowererCtx::new(&mut store), &cat)?;
+    let mut terms = LowererCtx::new(&mut store);
+    strangers_as(&rt, rt.alloc(), &mut terms, &cat)?;
+    has_stock(&rt, &terms, 1);
     strangers_as(&rt, rt.alloc(), &mut VariableLowerer::new(), &cat)
 }
 

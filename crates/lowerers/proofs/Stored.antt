@@ -40,11 +40,12 @@ module _ (s t : Terms) (e : TermArg) (entries : List TermArg) (ms : List Mark) w
       let at : written_in t e ≡ Some ps = ap (part_of (written t)) is ∙ ap (λ ws. part_of ws (Some p)) behind ∙ part_new (written s) ps p (sym long) (sym (length-map ms (piece_with entries))) in
       record {
         pieces = at;
+        plain = λ none. absurd (none-some ms (sym none));
         whole = subst (λ (o : Option (List (Piece TermArg))). IfSome o NoRef) (sym at) (no_refs entries ms refs);
         places = used;
         keeps = record {
           pieces = λ x qs h. ap (λ ws. part_of ws x.kept) behind ∙ part_stays (written s) ps qs x.kept h;
           size = size;
-          within = λ h. t.within;
+          within = t.within;
         };
       }

@@ -8,7 +8,7 @@ use Rattle.lowerers.specs.declared.lowering.Lowering.{Lowering}
 abbrev pub with_stock : View → ℕ → View
 with_stock v n = record { told = v.told; room = v.room; stock = n }
 
--- what a lowerer shows, by how many more entries can be made with what it makes them with
+-- what a lowerer shows, by the stock of what it makes its entries with
 abbrev pub view_by : {M : Type 0} → (M → ℕ) → Lowering M → View
 view_by left s = with_stock (own_view s.reports) (left s.makes)
 

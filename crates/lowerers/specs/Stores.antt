@@ -12,6 +12,7 @@ use Rattle.spans.specs.Parts.{part}
 use Rattle.lowerers.specs.declared.lowering.Lowering.{Lowering}
 use Rattle.lowerers.specs.declared.entries.Made.{Made}
 use Rattle.lowerers.specs.declared.terms.Terms.{Terms}
+use Rattle.lowerers.specs.Entries.{NothingKept}
 use Rattle.lowerers.specs.Shown.{with_stock}
 
 -- the free places of a store: at most 65,536 places are used
@@ -39,16 +40,17 @@ part_of ps (Some p) = cond (nat_le (p.from + p.len) (length ps)) (Some (part ps 
 abbrev pub written_in : Terms → TermArg → Option (List (Piece TermArg))
 written_in s e = part_of (written s) e.kept
 
--- the pieces of every entry stay as they are, the store as large as it is, and no more than 65,536 of its places used
+-- the pieces of every entry stay as they are, the store as large as it is, and no more than 65,536 of its places are used
 pub record Keeps (s t : Terms) : Type 0 where
   pub pieces : (e : TermArg) (ps : List (Piece TermArg)) → written_in s e ≡ Some ps → written_in t e ≡ Some ps
   pub size : length t.store.now ≡ length s.store.now
-  pub within : s.used ≤ min (length s.store.now) 65536 → t.used ≤ min (length t.store.now) 65536
+  pub within : t.used ≤ min (length t.store.now) 65536
 
 -- what inferred does with the store for the marks of a default, if it stands for one: they are written out with entry p
--- for ref p, no ref is left, and each piece takes one place
+-- for ref p, no ref is left, and each piece takes one place; an entry that stands for none never has pieces
 pub record Writing (o : Option (List Mark)) (entries : List TermArg) (s t : Terms) (e : TermArg) : Type 0 where
   pub pieces : written_in t e ≡ option_map (spelled_with entries) o
+  pub plain : o ≡ None → NothingKept e
   pub whole : IfSome (written_in t e) NoRef
   pub places : t.used ≡ s.used + marks_in o
   pub keeps : Keeps s t

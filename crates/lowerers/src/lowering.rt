@@ -7,7 +7,7 @@ use diagnostics::list::ReportList;
 use diagnostics::own::OwnReports;
 use diagnostics::reports::PathLoweringDiagnostic;
 
-// What entries are made with: how many more can be made.
+// What entries are made with: a stock, for at least as many defaults and parents as it says.
 pub trait Stocked {
     ghost left: { Self → ℕ };
 

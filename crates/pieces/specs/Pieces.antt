@@ -6,7 +6,7 @@ use Rattle.definitions.specs.declared.kinds.Mark.TheVariants.{Ref, Head, Base, V
 use Rattle.pieces.specs.declared.Piece.{Piece}
 use Rattle.pieces.specs.declared.Piece.TheVariants as piece
 
--- every ref among the marks is to a place below n
+-- a mark that is no ref, or a ref to a place below n
 abbrev pub RefBelow : ℕ → Mark → Type 0
 RefBelow n (Ref p) = p < n
 RefBelow n (Head d) = Unit {0}
@@ -14,6 +14,7 @@ RefBelow n (Base b) = Unit {0}
 RefBelow n (Value v) = Unit {0}
 RefBelow n (Region r) = Unit {0}
 
+-- every ref among the marks is to a place below n
 abbrev pub RefsBelow : ℕ → List Mark → Type 0
 RefsBelow n [] = Unit {0}
 RefsBelow n (m ∷ ms) = RefBelow n m × RefsBelow n ms
