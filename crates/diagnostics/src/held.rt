@@ -16,8 +16,8 @@ pub trait Places: AsSlice<PathLoweringDiagnostic> {
         ensures size { size self.new ≡ size self.old };
 }
 
-// A report list, of whose places the first `count` were told. Places with a count beside, since a list asks for no memory
-// and so can't be refused any.
+// A report list, of whose places the first `count` were told. Places with a count beside, since a list asks for no
+// memory and so can't be refused any.
 #[derive(Drop)]
 pub struct Reports<P: Places> {
     pub(crate) places: P,

@@ -13,8 +13,8 @@ use spans::Span;
 use std::alloc::Global;
 
 // A path as it is written: its segments with their names, and the arguments of all its lists with their places.
-// The lists are parallel, since `check_path` takes a slice of segments and `resolve` one of names, and since `read_list`
-// fills one list of arguments and answers their places by themselves.
+// The lists are parallel, since `check_path` takes a slice of segments and `resolve` one of names, and since
+// `read_list` fills one list of arguments and answers their places by themselves.
 #[derive(Drop)]
 pub struct PathText {
     heap: Global,

@@ -1,4 +1,5 @@
-// Tests of the two lowerers and of the trait that they keep, in a crate of their own, so that the lowerers are proved once.
+// Tests of the two lowerers and of the trait that they keep, in a crate of their own, so that the lowerers are proved
+// once.
 #![tactic(auto)]
 
 #[cfg(test)]

@@ -246,8 +246,8 @@ where
     without_stock(rt, heap, &mut plain, cat)
 }
 
-// A lowerer of another make does the same: one that keeps nothing of its entries, over either report list, whose stock is
-// lowered each time or never.
+// A lowerer of another make does the same: one that keeps nothing of its entries, over either report list, whose stock
+// is lowered each time or never.
 #[test]
 fn with_others(rt: HostRuntime) -> Result<(), Fail> {
     let cat = stocked(&rt, rt.alloc())?;
