@@ -2,8 +2,8 @@
 use Rattle.std.specs.Prelude.{◌≡◌, ℕ, ◌+◌, ◌<◌, List, [], ◌∷◌, ◌++◌, length}
 use Rattle.diagnostics.specs.declared.reports.PathLoweringDiagnostic.{PathLoweringDiagnostic}
 
--- the reports told, in order, how many more can be told, and for how many defaults and parents entries can still be made
--- at least
+-- the reports told, in order, how many more can be told, and the stock: at least so many more entries of defaults and
+-- parents can be made
 pub record View : Type 0 where
   pub told : List PathLoweringDiagnostic
   pub room : ℕ

@@ -3,8 +3,8 @@ ghost use Rattle.diagnostics.specs.Tells.{View, Told, Cleared};
 
 use crate::reports::PathLoweringDiagnostic;
 
-// A list of reports. It shows the reports told, in order, its room, which is how many more can be told, and its stock,
-// which is how many defaults and parents it can still make entries for at least; a list that makes none has stock 0.
+// A list of reports. It shows the reports told, in order, its room, which is how many more can be told, and its stock:
+// at least so many more entries of defaults and parents can be made. A list that makes no entries has stock 0.
 pub trait ReportList {
     ghost view: { Self → View };
 

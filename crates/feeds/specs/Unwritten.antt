@@ -1,14 +1,13 @@
--- What rows are if nothing is written for them. Assumes nothing.
-use Rattle.std.specs.Prelude.{List, map}
-use Rattle.definitions.specs.Definitions.{Param, kind_of}
+-- What the rows of a definition are if nothing is written for them. Assumes nothing.
+use Rattle.std.specs.Prelude.{ℕ, List, map}
+use Rattle.definitions.specs.Definitions.{Param, Definition, definition_at, whole_rows}
 use Rattle.lowerer.specs.declared.meaning.Meaning.{Meaning}
-use Rattle.lowerer.specs.Meanings.{default_if, means}
+use Rattle.lowerer.specs.Meanings.{unwritten_as}
 
--- a row is its default if it has one, else unknown (Reference, generic parameters: by its grammar type and const
--- parameters may have a default, and lifetimes have none)
-abbrev pub unwritten_as : Param → Meaning
-unwritten_as p = means (kind_of p.kind) (default_if p.default)
+-- the whole list of the definition with this number
+abbrev pub rows_of : List Definition → ℕ → List Param
+rows_of ds d = whole_rows ds (definition_at ds d)
 
--- every row of a list, each of its own kind
+-- every row of a list made by inferred, one after another
 abbrev pub unwritten_list : List Param → List Meaning
 unwritten_list rows = map unwritten_as rows

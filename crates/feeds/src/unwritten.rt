@@ -1,8 +1,7 @@
 // What the rows of a template would be if nothing were written.
 ghost use Rattle.std.specs.Prelude.{◌≡◌, ◌≤◌, length, map, IfOk, vec_items, vec_len};
-ghost use Rattle.definitions.specs.Definitions.{definition_at, whole_rows};
 ghost use Rattle.generics.specs.Held.{held};
-ghost use Rattle.feeds.specs.Unwritten.{unwritten_list};
+ghost use Rattle.feeds.specs.Unwritten.{rows_of, unwritten_list};
 
 use crate::known::Template;
 use crate::line::shown;
@@ -19,16 +18,16 @@ use places::view::Generics;
 use std::alloc::{AllocError, Global};
 use std::io;
 
-// An entry for each row, with inference off. Where the lowerer's stock is as large as the list, each row with a default
-// is its default, and every other row is unknown.
+// An entry for each row, made by inferred one after another with inference off. Where the lowerer's stock is at least as
+// large as the list, each row with a default is its default, and every other row is unknown.
 fn entries_of<L: GenericArgsLowerer>(
     heap: Global,
     cat: &Catalogue,
     def: u32,
     lowerer: &mut L,
 ) -> Result<Vec<L::Arg>, AllocError>
-    ensures number { IfOk result (λ v. vec_len v ≡ length (whole_rows (held cat.now) (definition_at (held cat.now) def))) }
-    ensures unwritten { IfOk result (λ v. let rows = whole_rows (held cat.now) (definition_at (held cat.now) def) in length rows ≤ (L.ReportList.view lowerer.old).stock → map L.meaning (vec_items v) ≡ unwritten_list rows) }
+    ensures number { IfOk result (λ v. vec_len v ≡ length (rows_of (held cat.now) def)) }
+    ensures unwritten { IfOk result (λ v. let rows = rows_of (held cat.now) def in length rows ≤ (L.ReportList.view lowerer.old).stock → map L.meaning (vec_items v) ≡ unwritten_list rows) }
 {
     let mut entries = Vec::new(heap);
     for place in 0..Generics::of(cat, def).len() {

@@ -74,8 +74,8 @@ kinds_before ds r = kinds_of (take r.place (whole_rows ds (definition_at ds r.de
 abbrev pub fills : List Definition → ParamPlace → List Kind → Bool
 fills ds r before = same_kinds before (kinds_before ds r)
 
--- the marks of the default that an inferred entry stands for, if it stands for one and stock is left; no default is put
--- in under inference or where the places it may refer to are not filled
+-- the marks of the default that an inferred entry stands for, if it stands for one; the stock is not asked here. No
+-- default is put in under inference or where the places it may refer to are not filled
 abbrev pub default_for : List Definition → ParamPlace → Bool → List Kind → Option (List Mark)
 default_for ds r infer before = cond (not infer && fills ds r before) (default_of (param_at ds r.def r.place)) None
 
@@ -86,6 +86,12 @@ default_if (Some ms) = Default
 -- a row for which nothing is written, with so much stock: its default or unknown
 abbrev pub inferred_as : List Definition → ParamPlace → Bool → List Kind → ℕ → Meaning
 inferred_as ds r infer before stock = at_row (row_kind_at ds r) (cond (nat_lt 0 stock) (default_if (default_for ds r infer before)) Unknown)
+
+-- what inferred makes of a row, inference off, where stock is left and the places before it are filled: its default if it
+-- has one, else unknown (Reference, generic parameters: by its grammar type and const parameters may have a default, and
+-- lifetimes have none)
+abbrev pub unwritten_as : Param → Meaning
+unwritten_as p = means (kind_of p.kind) (default_if p.default)
 
 -- a row of the parent; at stock 0 unknown
 abbrev pub parent_as : List Definition → ParamPlace → ℕ → Meaning

@@ -112,22 +112,20 @@ where
     made_as(rt, lowerer, entry, off.kind, Source::Unknown);
 }
 
+// Each row of the function; those with a default have the source `defaulted` with inference off.
 fn inferred_as<L: GenericArgsLowerer>(
     rt: &impl Abort,
     heap: Global,
     lowerer: &mut L,
     cat: &Catalogue,
+    defaulted: Source,
 ) -> Result<(), Fail>
 where
     L::Arg: Entry,
 {
     for (place, before, kind, default) in &PLACES {
         let preceding = filled(heap, lowerer, before)?;
-        let source = if *default {
-            Source::Default
-        } else {
-            Source::Unknown
-        };
+        let source = if *default { defaulted } else { Source::Unknown };
         let off = Meaning {
             kind: *kind,
             source,
@@ -176,24 +174,12 @@ where
 {
     parents_as(rt, lowerer, cat, Source::Unknown);
     handed_over(rt, lowerer, cat);
-    for (place, before, kind, _) in &PLACES {
-        let preceding = filled(heap, lowerer, before)?;
-        let off = Meaning {
-            kind: *kind,
-            source: Source::Unknown,
-        };
-        inferred_at(rt, lowerer, cat, at(FUNCTION, *place), &preceding, off);
-    }
+    inferred_as(rt, heap, lowerer, cat, Source::Unknown)?;
+    let entry = lowerer.inferred_kind(cat, at(DEFAULTED, 0), false, &[]);
+    made_as(rt, lowerer, entry, Kind::Type, Source::Unknown);
     stranger_as(rt, lowerer, cat, at(NEXT, 0), &[]);
     has_stock(rt, lowerer, 0);
     Ok(())
-}
-
-// Takes variables.
-fn spend<L: GenericArgsLowerer>(lowerer: &mut L, cat: &Catalogue, count: u32) {
-    for _ in 0..count {
-        let _ = lowerer.parent_arg(cat, at(PLAIN, 0));
-    }
 }
 
 #[test]
@@ -203,7 +189,7 @@ fn with_terms(rt: HostRuntime) -> Result<(), Fail> {
     let mut terms = LowererCtx::new(&mut store);
     handed_over(&rt, &mut terms, &cat);
     parents_as(&rt, &mut terms, &cat, Source::Parent);
-    inferred_as(&rt, rt.alloc(), &mut terms, &cat)?;
+    inferred_as(&rt, rt.alloc(), &mut terms, &cat, Source::Default)?;
     without_stock(&rt, rt.alloc(), &mut terms, &cat)
 }
 
@@ -213,7 +199,7 @@ fn with_variables(rt: HostRuntime) -> Result<(), Fail> {
     let mut variables = VariableLowerer::new();
     handed_over(&rt, &mut variables, &cat);
     parents_as(&rt, &mut variables, &cat, Source::Parent);
-    inferred_as(&rt, rt.alloc(), &mut variables, &cat)?;
+    inferred_as(&rt, rt.alloc(), &mut variables, &cat, Source::Default)?;
     has_stock(&rt, &variables, 224);
     spend(&mut variables, &cat, 224);
     without_stock(&rt, rt.alloc(), &mut variables, &cat)
@@ -222,7 +208,7 @@ fn with_variables(rt: HostRuntime) -> Result<(), Fail> {
 // With inference off and on at each of the twelve places, and parent at each.
 const SPENDING: usize = 36;
 
-// Everything that is asked of a lowerer of another make.
+// The makings of a lowerer of another make, with stock and without.
 fn kept_by<R: ReportList>(
     rt: &impl Abort,
     heap: Global,
@@ -240,7 +226,7 @@ where
     };
     handed_over(rt, &mut plain, cat);
     parents_as(rt, &mut plain, cat, Source::Parent);
-    inferred_as(rt, heap, &mut plain, cat)?;
+    inferred_as(rt, heap, &mut plain, cat, Source::Default)?;
     has_stock(rt, &plain, if spends { 0 } else { SPENDING });
     plain.stock = 0;
     without_stock(rt, heap, &mut plain, cat)

@@ -137,9 +137,7 @@ fn all_taken(rt: HostRuntime) -> Result<(), Fail> {
 
 // With one variable left a default is still a default and takes none; an unknown then takes the last.
 fn at_last(rt: &impl Abort, lowerer: &mut VariableLowerer, cat: &Catalogue) {
-    for _ in 0..255u32 {
-        let _ = lowerer.parent_arg(cat, at(PLAIN, 0));
-    }
+    spend(lowerer, cat, 255);
     has_stock(rt, lowerer, 1);
     let default = lowerer.inferred_kind(cat, at(DEFAULTED, 0), false, &[]);
     is_meant(rt, default.meaning(), Kind::Type, Source::Default);

@@ -1,5 +1,4 @@
 // A lowerer of another make, over any report list.
-ghost use Rattle.diagnostics.specs.Tells.{Cleared, Told};
 ghost use Rattle.lowerers.specs.Shown.{with_stock};
 
 use definitions::kinds::Kind;

@@ -1,7 +1,9 @@
 // The reports of a lowerer beside what it makes.
+use crate::plain::Plain;
 use crate::words::*;
 use definitions::kinds::Mark;
 use diagnostics::list::ReportList;
+use diagnostics::own::OwnReports;
 use diagnostics::reports::{PathGenericsSource, PathLoweringDiagnostic};
 use generics::catalogue::Catalogue;
 use lowerer::makings::GenericArgsLowerer;
@@ -66,6 +68,12 @@ fn told_and_cleared(rt: HostRuntime) {
     let mut store = [Piece::Mark(Mark::Base(0)); 64];
     reports_as(&rt, &mut LowererCtx::new(&mut store), 2);
     reports_as(&rt, &mut VariableLowerer::new(), 256);
+    let mut plain = Plain {
+        reports: OwnReports::new(),
+        stock: 5,
+        spends: true,
+    };
+    reports_as(&rt, &mut plain, 5);
 }
 
 // Each making once, and inferred at a default and at none.

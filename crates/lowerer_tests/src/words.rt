@@ -216,6 +216,13 @@ pub(crate) fn has_stock<L: ReportList>(rt: &impl Abort, lowerer: &L, stock: usiz
     assert_eq!(rt; lowerer.stock(), stock);
 }
 
+// Takes as much stock as parent takes for so many rows.
+pub(crate) fn spend<L: GenericArgsLowerer>(lowerer: &mut L, cat: &Catalogue, count: u32) {
+    for _ in 0..count {
+        let _ = lowerer.parent_arg(cat, at(PLAIN, 0));
+    }
+}
+
 // One entry for each letter, of kind lifetime, const or type.
 pub(crate) fn filled<L: GenericArgsLowerer>(
     heap: Global,

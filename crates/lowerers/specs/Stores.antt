@@ -40,7 +40,8 @@ part_of ps (Some p) = cond (nat_le (p.from + p.len) (length ps)) (Some (part ps 
 abbrev pub written_in : Terms → TermArg → Option (List (Piece TermArg))
 written_in s e = part_of (written s) e.kept
 
--- the pieces of every entry stay as they are, the store as large as it is, and no more than 65,536 of its places are used
+-- the pieces of every entry stay as they are, the store as large as it is, and no more than 65,536 of its places are
+-- used, as in every store (a ghost field of `Terms`)
 pub record Keeps (s t : Terms) : Type 0 where
   pub pieces : (e : TermArg) (ps : List (Piece TermArg)) → written_in s e ≡ Some ps → written_in t e ≡ Some ps
   pub size : length t.store.now ≡ length s.store.now

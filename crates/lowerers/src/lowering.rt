@@ -7,7 +7,7 @@ use diagnostics::list::ReportList;
 use diagnostics::own::OwnReports;
 use diagnostics::reports::PathLoweringDiagnostic;
 
-// What entries are made with: a stock, for at least as many defaults and parents as it says.
+// What entries are made with. Its stock: at least so many more entries of defaults and parents can be made.
 pub trait Stocked {
     ghost left: { Self → ℕ };
 

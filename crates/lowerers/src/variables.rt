@@ -14,7 +14,7 @@ pub struct Variables {
     ghost few: { taken ≤ 256 },
 }
 
-// A lowerer that gives variables to the unknown and parent entries that inferred and parent make.
+// A lowerer that gives variables to the unknown and parent entries that inferred and parent make above stock 0.
 pub type VariableLowerer = Lowering<Variables>;
 
 // What is kept of an entry: the variable that stands for it, or the row whose default it is.

@@ -1,16 +1,15 @@
 use Rattle.std.proofs.Common.{◌<◌, false, length, map, ap, ◌∙◌, arith, rules, vec_items}
-use Rattle.definitions.specs.Definitions.{definition_at, whole_rows}
 use Rattle.generics.specs.Held.{held}
 use Rattle.lowerer.specs.declared.meaning.ParamPlace.{ParamPlace}
 use Rattle.lowerer.specs.Meanings.{inferred_as, kinds_by}
+use Rattle.feeds.specs.Unwritten.{rows_of}
 use Rattle.feeds.proofs.Unwriting.{one_more}
 use Rattle.feeds.proofs.unwritten.entries_of.Goals as goal
 
 pub loop-place-preserved : goal.loop-place-preserved
 loop-place-preserved g c =
     let ds = held c.args.cat.now in
-    let rows = whole_rows ds (definition_at ds c.args.def) in
-    let more : c.loop-place.place < length rows = search rules in
+    let more : c.loop-place.place < length (rows_of ds c.args.def) = search rules in
     let spent = c.inferred_kind-entry.ensures.state.stock in
     let row : ParamPlace = record { def = c.args.def; place = c.loop-place.place } in
     let m = g.L.GenericArgsLowerer.meaning in

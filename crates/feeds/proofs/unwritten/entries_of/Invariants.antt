@@ -1,14 +1,13 @@
 use Rattle.std.proofs.Common.{◌≡◌, ◌≤◌, ◌+◌, length, map, take, vec_items, vec_len}
-use Rattle.definitions.specs.Definitions.{definition_at, whole_rows}
 use Rattle.generics.specs.Held.{held}
-use Rattle.feeds.specs.Unwritten.{unwritten_list}
+use Rattle.feeds.specs.Unwritten.{rows_of, unwritten_list}
 use Rattle.feeds.proofs.unwritten.entries_of.Given as goal
 
 -- one entry for each place so far, each as if nothing were written for it where the stock was enough
 abbrev pub invariant-loop-place : goal.invariant-loop-place
 invariant-loop-place g l = record {
   many : vec_len l.entries ≡ l.place;
-  within : l.place ≤ length (whole_rows (held l.cat) (definition_at (held l.cat) l.def));
+  within : l.place ≤ length (rows_of (held l.cat) l.def);
   stocked : (g.L.ReportList.view l.fn.lowerer).stock ≤ (g.L.ReportList.view l.lowerer).stock + l.place;
-  unwritten : length (whole_rows (held l.cat) (definition_at (held l.cat) l.def)) ≤ (g.L.ReportList.view l.fn.lowerer).stock → map g.L.GenericArgsLowerer.meaning (vec_items l.entries) ≡ unwritten_list (take l.place (whole_rows (held l.cat) (definition_at (held l.cat) l.def)));
+  unwritten : length (rows_of (held l.cat) l.def) ≤ (g.L.ReportList.view l.fn.lowerer).stock → map g.L.GenericArgsLowerer.meaning (vec_items l.entries) ≡ unwritten_list (take l.place (rows_of (held l.cat) l.def));
 }
