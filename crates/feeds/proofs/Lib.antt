@@ -1,3 +1,0 @@
-pub mod Resolving
-pub mod Searched
-pub mod Unwriting

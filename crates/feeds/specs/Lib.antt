@@ -1,3 +1,1 @@
-pub mod Resolves
 pub mod Segments
-pub mod Unwritten

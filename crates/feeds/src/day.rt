@@ -1,5 +1,4 @@
 // The lines of a day, one after the other.
-use crate::known::{Template, resolve, template_of};
 use crate::line::Line;
 use crate::parts::Part;
 use crate::paths::read_path;
@@ -11,6 +10,7 @@ use diagnostics::own::OwnReports;
 use generics::catalogue::Catalogue;
 use indexmap::IndexSet;
 use listing::faults::Reason;
+use naming::known::{Template, resolve, template_of};
 use path::checked::check_path;
 use std::alloc::{AllocError, Global};
 use std::io;

@@ -7,13 +7,10 @@
 #![tactic(auto)]
 
 mod day;
-mod known;
 mod line;
 mod parts;
 mod paths;
 mod templates;
-#[cfg(test)]
-mod tests;
 mod told;
 mod unwritten;
 

@@ -1,11 +1,11 @@
 // The rows of a template line.
-use crate::known::{Template, template_of};
 use crate::parts::{Named, Part};
 use definitions::kinds::RowKind;
 use listing::blanks::is_white;
 use listing::faults::{ReadError, Reason};
 use listing::lists::arguments;
 use listing::names::name_len;
+use naming::known::{Template, template_of};
 use spans::Span;
 use std::alloc::Global;
 

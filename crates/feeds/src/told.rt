@@ -1,10 +1,10 @@
 // What is told of a path that was checked.
-use crate::known::Meant;
 use crate::line::{Line, shown};
 use crate::paths::PathText;
 use diagnostics::list::ReportList;
 use diagnostics::own::OwnReports;
 use diagnostics::reports::PathLoweringDiagnostic;
+use naming::known::Meant;
 use path::segments::{GenericArgs, PathSegment};
 use std::io;
 

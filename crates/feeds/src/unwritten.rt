@@ -1,42 +1,17 @@
 // What the rows of a template would be if nothing were written.
-ghost use Rattle.std.specs.Prelude.{◌≡◌, ◌≤◌, length, map, IfOk, vec_items, vec_len};
-ghost use Rattle.generics.specs.Held.{held};
-ghost use Rattle.feeds.specs.Unwritten.{rows_of, unwritten_list};
-
-use crate::known::Template;
 use crate::line::shown;
 use crate::templates::RowText;
 use definitions::kinds::Mark;
 use generics::catalogue::Catalogue;
 use indexmap::IndexSet;
-use lowerer::makings::GenericArgsLowerer;
-use lowerer::meaning::ParamPlace;
 use lowerers::terms::{LowererCtx, TermArg};
 use lowerers::variables::VariableLowerer;
+use naming::known::Template;
+use nothing_written::entries_of;
 use pieces::Piece;
 use places::view::Generics;
-use std::alloc::{AllocError, Global};
+use std::alloc::Global;
 use std::io;
-
-// An entry for each row, made by inferred one after another with inference off. Where the lowerer's stock is at least as
-// large as the list, each row with a default is its default, and every other row is unknown.
-fn entries_of<L: GenericArgsLowerer>(
-    heap: Global,
-    cat: &Catalogue,
-    def: u32,
-    lowerer: &mut L,
-) -> Result<Vec<L::Arg>, AllocError>
-    ensures number { IfOk result (λ v. vec_len v ≡ length (rows_of (held cat.now) def)) }
-    ensures unwritten { IfOk result (λ v. let rows = rows_of (held cat.now) def in length rows ≤ (L.ReportList.view lowerer.old).stock → map L.meaning (vec_items v) ≡ unwritten_list rows) }
-{
-    let mut entries = Vec::new(heap);
-    for place in 0..Generics::of(cat, def).len() {
-        let row = ParamPlace { def, place };
-        let entry = lowerer.inferred_kind(cat, row, false, entries.as_slice());
-        entries.push(entry)?;
-    }
-    Ok(entries)
-}
 
 // A declared template: its definition in the catalogue, the number of its line, its rows, and the names that its
 // defaults use.

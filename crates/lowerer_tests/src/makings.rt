@@ -14,6 +14,7 @@ use lowerer::meaning::{Meaning, ParamPlace, Source};
 use lowerers::lowering::Stocked;
 use lowerers::terms::LowererCtx;
 use lowerers::variables::VariableLowerer;
+use nothing_written::entries_of;
 use path::args::GenericArg;
 use pieces::Piece;
 use std::alloc::Global;
@@ -135,6 +136,29 @@ where
     Ok(())
 }
 
+// All rows of the function, made one after another by the library.
+fn all_inferred<L: GenericArgsLowerer>(
+    rt: &impl Abort,
+    heap: Global,
+    lowerer: &mut L,
+    cat: &Catalogue,
+) -> Result<(), Fail>
+where
+    L::Arg: Entry,
+{
+    let entries = entries_of(heap, cat, FUNCTION, lowerer)?;
+    assert_eq!(rt; entries.len(), PLACES.len());
+    for (entry, (_, _, kind, default)) in entries.iter().zip(&PLACES) {
+        let source = if *default {
+            Source::Default
+        } else {
+            Source::Unknown
+        };
+        is_meant(rt, entry.meaning(), *kind, source);
+    }
+    Ok(())
+}
+
 // Parent is answered at the function's own places too.
 fn parents_as<L: GenericArgsLowerer>(
     rt: &impl Abort,
@@ -203,6 +227,17 @@ fn with_variables(rt: HostRuntime) -> Result<(), Fail> {
     has_stock(&rt, &variables, 224);
     spend(&mut variables, &cat, 224);
     without_stock(&rt, rt.alloc(), &mut variables, &cat)
+}
+
+#[test]
+fn one_after_another(rt: HostRuntime) -> Result<(), Fail> {
+    let cat = stocked(&rt, rt.alloc())?;
+    let mut store = [Piece::Mark(Mark::Base(0)); 384];
+    all_inferred(&rt, rt.alloc(), &mut LowererCtx::new(&mut store), &cat)?;
+    all_inferred(&rt, rt.alloc(), &mut VariableLowerer::new(), &cat)?;
+    let none = entries_of(rt.alloc(), &cat, NEXT, &mut VariableLowerer::new())?;
+    assert_eq!(rt; none.len(), 0);
+    Ok(())
 }
 
 // With inference off and on at each of the twelve places, and parent at each.

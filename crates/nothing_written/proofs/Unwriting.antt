@@ -10,7 +10,7 @@ use Rattle.lowerer.specs.declared.meaning.Meaning.{Meaning}
 use Rattle.lowerer.specs.declared.meaning.ParamPlace.{ParamPlace}
 use Rattle.lowerer.specs.Meanings.{inferred_as, kinds_by, unwritten_as}
 use Rattle.lowerer.proofs.Unwritten.{unwritten_at}
-use Rattle.feeds.specs.Unwritten.{rows_of, unwritten_list}
+use Rattle.nothing_written.specs.Unwritten.{rows_of, unwritten_list}
 
 -- one entry more, where stock is left
 pub one_more : {A : Type 0} (m : A → Meaning) (ds : List Definition) (r : ParamPlace) (xs : List A) (x : A) (stock : ℕ) → r.place < length (rows_of ds r.def) → 0 < stock → map m xs ≡ unwritten_list (take r.place (rows_of ds r.def)) → m x ≡ inferred_as ds r false (kinds_by m xs) stock → map m (xs ++ x ∷ []) ≡ unwritten_list (take (r.place + 1) (rows_of ds r.def))

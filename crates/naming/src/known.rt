@@ -1,6 +1,6 @@
 // The names that a day knows, and what a path names by them.
 ghost use Rattle.std.specs.Prelude.{◌≡◌};
-ghost use Rattle.feeds.specs.Resolves.{builtin, first_known, kind_of, meant_by, numbered};
+ghost use Rattle.naming.specs.Resolves.{builtin, first_known, kind_of, meant_by, numbered};
 
 use path::segments::{Resolution, TypeNs};
 use spans::Span;
@@ -41,7 +41,7 @@ pub struct Resolved {
 }
 
 // The number of the first template of that name.
-pub(crate) fn template_of(templates: &[Template], name: &[u8]) -> Option<u32>
+pub fn template_of(templates: &[Template], name: &[u8]) -> Option<u32>
     ensures { result ≡ numbered templates.now name.now }
 {
     templates
@@ -81,7 +81,7 @@ fn meaning(templates: &[Template], name: &[u8]) -> Option<Meant>
 
 // What the path names: the first name from the left that stands for something is the resolved segment. If none
 // does, the path names a module.
-pub(crate) fn resolve(templates: &[Template], line: &[u8], names: &[Span]) -> Resolved
+pub fn resolve(templates: &[Template], line: &[u8], names: &[Span]) -> Resolved
     ensures { result ≡ first_known templates.now line.now names.now 0 }
 {
     names

@@ -7,10 +7,10 @@ use Rattle.path.specs.declared.segments.TypeNs.{TypeNs}
 use Rattle.path.specs.declared.segments.TypeNs.TheVariants as kind
 use Rattle.spans.specs.declared.Span.{Span}
 use Rattle.spans.specs.Parts.{part}
-use Rattle.feeds.specs.declared.known.Template.{Template}
-use Rattle.feeds.specs.declared.known.Meant.{Meant}
-use Rattle.feeds.specs.declared.known.Meant.TheVariants as meant
-use Rattle.feeds.specs.declared.known.Resolved.{Resolved}
+use Rattle.naming.specs.declared.known.Template.{Template}
+use Rattle.naming.specs.declared.known.Meant.{Meant}
+use Rattle.naming.specs.declared.known.Meant.TheVariants as meant
+use Rattle.naming.specs.declared.known.Resolved.{Resolved}
 
 -- the number of the first template of that name
 abbrev pub numbered : List Template → List ℕ → Option ℕ

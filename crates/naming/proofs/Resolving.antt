@@ -5,11 +5,11 @@ use Rattle.std.specs.List.{enumerate_from}
 use Rattle.std.specs.Option.{option_or, unwrap_or}
 use Rattle.spans.specs.declared.Span.{Span}
 use Rattle.spans.specs.Parts.{part}
-use Rattle.feeds.specs.declared.known.Template.{Template}
-use Rattle.feeds.specs.declared.known.Meant.{Meant}
-use Rattle.feeds.specs.declared.known.Resolved.{Resolved}
-use Rattle.feeds.specs.Resolves.{meant_by, kind_of, left_over, a_module, first_known}
-use Rattle.feeds.proofs.Searched.{first_some}
+use Rattle.naming.specs.declared.known.Template.{Template}
+use Rattle.naming.specs.declared.known.Meant.{Meant}
+use Rattle.naming.specs.declared.known.Resolved.{Resolved}
+use Rattle.naming.specs.Resolves.{meant_by, kind_of, left_over, a_module, first_known}
+use Rattle.naming.proofs.Searched.{first_some}
 
 -- what a name that stands for something says of its path of n names
 abbrev carried : ℕ → ℕ → Option Meant → Option Resolved

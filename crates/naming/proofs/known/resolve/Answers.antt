@@ -2,10 +2,10 @@ use Rattle.std.proofs.Common.{length, rules, tests, ap, ◌∙◌, arith}
 use Rattle.std.specs.Option.{unwrap_or}
 use Rattle.std.proofs.lemmas.Iterator.{YieldsList-from_slice}
 use Rattle.std.proofs.lemmas.Iterator.Consumers.{YieldsList-from_enumerate}
-use Rattle.feeds.specs.Resolves.{a_module}
-use Rattle.feeds.proofs.Resolving.{known_at, known_from}
-use Rattle.feeds.proofs.Searched.{first_some_from_find_map}
-use Rattle.feeds.proofs.known.resolve.Goals as goal
+use Rattle.naming.specs.Resolves.{a_module}
+use Rattle.naming.proofs.Resolving.{known_at, known_from}
+use Rattle.naming.proofs.Searched.{first_some_from_find_map}
+use Rattle.naming.proofs.known.resolve.Goals as goal
 
 pub returns : goal.returns
 returns c =
